@@ -1,0 +1,4 @@
+mod Replays
+mod Rows
+mod Shortage
+mod Steps

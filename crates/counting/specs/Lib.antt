@@ -1,0 +1,6 @@
+pub mod Refusals
+pub mod Ledger
+pub mod Meaning
+pub mod Short
+pub mod Runs
+pub mod Extremes
