@@ -1,4 +1,5 @@
+pub mod Outputs
 mod Replays
-mod Rows
+pub mod Rows
 mod Shortage
 mod Steps

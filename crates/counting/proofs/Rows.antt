@@ -10,7 +10,7 @@ use native.Mathlib.Omega.{arith}
 use Rattle.std.specs.shelf.Lists.{sum, sumBy, leading, countBy}
 use Rattle.std.proofs.shelf.Tests.{ne-eqb, eq-eqb, cases-eq}
 use Rattle.std.proofs.shelf.Sums.{sumBy-cons, sumBy-take-drop, countBy-more-yes, countBy-more-no}
-use Rattle.std.proofs.shelf.Lists.{getD-drop, getD-set-same, getD-set-other}
+use Rattle.std.proofs.shelf.Lists.{getD-past, length-take, getD-set-same, getD-set-other}
 use Rattle.counting.specs.Ledger.{occurs}
 
 -- the first place that fails a test
@@ -87,3 +87,7 @@ changed-more change old new row i v wide within level each one k h = elim (cases
 
     other : k ≢ getD row i 0 → getD (set new (getD row i 0) v) k 0 ≡ change (getD old k 0) (occurs k (take (i + 1) row))
     other ne = getD-set-other new (getD row i 0) k v 0 ne ∙ each k h ∙ ap (change (getD old k 0)) (sym (occurs-other row i k within ne))
+
+-- past a front of a list there is nothing
+pub getD-take-past : (n : ℕ) (xs : List ℕ) (i : ℕ) → n ≤ i → getD (take n xs) i 0 ≡ 0
+getD-take-past n xs i h = getD-past (take n xs) i 0 (simp length-take (omega arith))

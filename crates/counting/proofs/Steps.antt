@@ -12,14 +12,14 @@ use Rattle.std.specs.Iters.{counting}
 use Rattle.std.specs.shelf.Lists.{sum, sumBy}
 use Rattle.std.proofs.shelf.Tests.{lt-ltb, le-ltb, le-leb, lt-leb, ltb-true, cases-lt}
 use Rattle.std.proofs.shelf.Counted.{length-counting, getD-counting, fill-by-all}
-use Rattle.std.proofs.shelf.Lists.{length-take, length-take-le, getD-take, getD-drop, getD-past}
+use Rattle.std.proofs.shelf.Lists.{length-take-le, getD-take, getD-drop, getD-past}
 use Rattle.std.proofs.shelf.Sums.{sumBy-take-drop}
 use Rattle.counting.specs.Ledger.{Ledger, Asked, Told, now-total, counted, withdrawn, step, refuses, accepts, each-level, total-of, pixels-at, occurs, first-no-level, lowest-short}
 use Rattle.std.specs.declared.option.Option.the-variants.{Some, None}
 use Rattle.counting.specs.Meaning.{ledger-of}
 use Rattle.counting.specs.Short.{LowestShort}
 use Rattle.counting.specs.declared.histogram.Histogram.{Histogram}
-use Rattle.counting.proofs.Rows.{leading-is, leading-all, leading-passes, occurs-none, sum-zeros}
+use Rattle.counting.proofs.Rows.{leading-is, leading-all, leading-passes, occurs-none, sum-zeros, getD-take-past}
 
 level-at : (k l : ℕ) → l < k → getD (counting 0 k) l 0 ≡ l
 level-at k l h = getD-counting 0 k l 0 h ∙ zero-add l
@@ -140,4 +140,4 @@ module _ (h : Histogram) (row : List ℕ) (levels : first-no-level (h .levels) r
 
 -- a number that is not a level has no pixels
 pub no-level-none : (h : Histogram) (l : ℕ) → h .levels ≤ l → pixels-at (ledger-of h) l ≡ 0
-no-level-none h l beyond = getD-past (take (h .levels) (h .pixels)) l 0 (simp length-take (omega arith))
+no-level-none h l beyond = getD-take-past (h .levels) (h .pixels) l beyond

@@ -4,3 +4,4 @@ pub mod Meaning
 pub mod Short
 pub mod Runs
 pub mod Extremes
+pub mod Outputs

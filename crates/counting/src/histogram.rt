@@ -19,3 +19,5 @@ pub struct Histogram {
 
 mod changes;
 mod reads;
+
+pub use changes::first_no_level;

@@ -4,6 +4,7 @@ mod refusal;
 mod run;
 
 pub use histogram::Histogram;
+pub use histogram::first_no_level;
 pub use refusal::Refusal;
 pub use refusal::RefusalDebug;
 pub use refusal::RefusalDisplay;

@@ -10,8 +10,8 @@ ghost use Rattle.counting.specs.Short.{LowestShort};
 use super::Histogram;
 use crate::Refusal;
 
-// The first place of a pixel that is not below `levels`.
-fn first_no_level(levels: u16, row: &[u16]) -> Option<usize>
+// The first place of a pixel that is not one of `levels` levels.
+pub fn first_no_level(levels: u16, row: &[u16]) -> Option<usize>
     ensures { λ r. ⌜ BySome r (first-no-level levels (now (row .entry)) ≡ length (now (row .entry))) (λ place. (place ≡ first-no-level levels (now (row .entry))) × (place < length (now (row .entry)))) ⌝ }
 {
     for (place, pixel) in row.iter().enumerate() {

@@ -1,0 +1,2 @@
+mod Bins
+mod Rows
