@@ -25,3 +25,8 @@ over cells before = cells ++ drop (length cells) before
 abbrev pub Wrote : {X : Type 0} → Option Row → List X → Result ℕ Refusal → List X → List X → Type 0
 Wrote row cells (Ok count) before then = (row ≡ None) × (count ≡ length cells) × (then ≡ over cells before)
 Wrote row cells (Err e) before then = (row ≡ Some (row-of e)) × (then ≡ before)
+
+-- refused exactly by the row that fits
+abbrev pub Judged : {X : Type 0} → Option Row → Result X Refusal → Type 0
+Judged row (Ok x) = row ≡ None
+Judged row (Err e) = row ≡ Some (row-of e)

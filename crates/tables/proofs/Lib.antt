@@ -1,2 +1,2 @@
-mod Bins
-mod Rows
+pub mod Bins
+pub mod Rows

@@ -1,0 +1,11 @@
+pub mod KindLaws
+pub mod ErrorLaws
+pub mod LayerLaws
+pub mod WeightReads
+pub mod Costs
+pub mod Trials
+pub mod PlainSums
+pub mod Centroids
+pub mod AddedUp
+pub mod CentroidPrices
+pub mod OnePrice

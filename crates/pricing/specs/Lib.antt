@@ -1,0 +1,9 @@
+pub mod Tallies
+pub mod Kinds
+pub mod Errors
+pub mod Measures
+pub mod Weights
+pub mod Prices
+pub mod Spans
+pub mod Plain
+pub mod Statements

@@ -1,0 +1,8 @@
+// The sum of all errors, held at the largest number of 64 bits.
+ghost use Prim.Native.Nat.{_^_, _<_};
+
+#[derive(Clone, Copy, PartialEq, Eq, Debug)]
+pub struct Total {
+    pub sum: u64,
+    ghost fits: { sum < 2 ^ 64 },
+}
