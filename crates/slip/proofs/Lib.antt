@@ -1,0 +1,6 @@
+mod Faults
+mod Grammars
+mod Headers
+mod Rasters
+mod Readings
+mod Writings
