@@ -1,3 +1,4 @@
+pub mod Ledgers
 pub mod Outputs
 mod Replays
 pub mod Rows

@@ -10,7 +10,7 @@ use native.Mathlib.Omega.{arith}
 use Rattle.std.specs.shelf.Lists.{sum, sumBy, leading, countBy}
 use Rattle.std.proofs.shelf.Tests.{ne-eqb, eq-eqb, cases-eq}
 use Rattle.std.proofs.shelf.Sums.{sumBy-cons, sumBy-take-drop, countBy-more-yes, countBy-more-no}
-use Rattle.std.proofs.shelf.Lists.{getD-past, length-take, getD-set-same, getD-set-other}
+use Rattle.std.proofs.shelf.Lists.{getD-past, getD-take, length-take, length-take-le, getD-set-same, getD-set-other, ext-getD}
 use Rattle.counting.specs.Ledger.{occurs}
 
 -- the first place that fails a test
@@ -91,3 +91,9 @@ changed-more change old new row i v wide within level each one k h = elim (cases
 -- past a front of a list there is nothing
 pub getD-take-past : (n : ℕ) (xs : List ℕ) (i : ℕ) → n ≤ i → getD (take n xs) i 0 ≡ 0
 getD-take-past n xs i h = getD-past (take n xs) i 0 (simp length-take (omega arith))
+
+-- a list that begins with the numbers, as a front of it
+pub front-is : (numbers cells : List ℕ) → length numbers ≤ length cells → ((i : ℕ) → i < length numbers → getD cells i 0 ≡ getD numbers i 0) → take (length numbers) cells ≡ numbers
+front-is numbers cells short same =
+    let long = length-take-le (length numbers) cells short in
+    ext-getD 0 (take (length numbers) cells) numbers long (λ i h. let lt : i < length numbers = rw long at h in getD-take (length numbers) cells i 0 lt ∙ same i lt)

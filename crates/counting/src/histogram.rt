@@ -18,6 +18,7 @@ pub struct Histogram {
 }
 
 mod changes;
+mod makes;
 mod reads;
 
 pub use changes::first_no_level;

@@ -13,7 +13,8 @@ use Rattle.counting.specs.Ledger.{Ledger, counted-levels}
 use Rattle.pricing.specs.Tallies.{Ops, Laws, NotAbove}
 use Rattle.pricing.specs.Errors.{Fair}
 use Rattle.pricing.specs.Prices.{Counted, map-tally}
-use Rattle.drawing.specs.Divisions.{Sound, level-at, price, Divides, divided, Best, BestOf, tally-of}
+use Rattle.counting.specs.Lawful.{Lawful as Sound}
+use Rattle.drawing.specs.Divisions.{level-at, price, Divides, divided, Best, BestOf, tally-of}
 use Rattle.drawing.proofs.Order.{from-le, to-le, join-le}
 use Rattle.drawing.proofs.Divisions.{runs-le, singles, best-divides, best-among}
 use Rattle.drawing.proofs.Places.{at, rising, few-pixels}

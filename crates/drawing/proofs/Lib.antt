@@ -9,7 +9,6 @@ pub mod OwnMap
 pub mod Sums
 pub mod Standing
 pub mod Same
-pub mod Histograms
 pub mod Cuts
 pub mod ClosedForms
 pub mod Models

@@ -7,15 +7,9 @@ use lib.Dec.{ltb}
 use lib.ListN.{length, getD}
 use Rattle.std.specs.Iters.{counting}
 use Rattle.std.specs.shelf.Lists.{kept-by}
-use Rattle.counting.specs.Ledger.{Ledger, pixels-at, total-of, counted-levels}
+use Rattle.counting.specs.Ledger.{Ledger, pixels-at, counted-levels}
 use Rattle.pricing.specs.Tallies.{Ops, NotAbove}
 use Rattle.pricing.specs.Prices.{range-tally}
-
--- A ledger as a histogram keeps it: 2 to 1,024 levels, a number of pixels for each, and a total that fits 32 bits.
-pub record Sound (g : Ledger) : Type 0 where
-  pub range : (2 ≤ g .levels) × (g .levels ≤ 1024)
-  pub width : length (g .at) ≡ g .levels
-  pub fits : total-of g ≤ 4294967295
 
 -- the counted levels, in rising order
 abbrev pub levels-of : Ledger → List ℕ

@@ -25,7 +25,8 @@ use Rattle.pricing.specs.Prices.{map-tally}
 use Rattle.tables.specs.Table.{Table, shown-by}
 use Rattle.tables.specs.Meaning.{table-of}
 use Rattle.tables.specs.declared.table.LevelTable.{LevelTable}
-use Rattle.drawing.specs.Divisions.{Sound, bins-of, BestOf}
+use Rattle.counting.specs.Lawful.{Lawful as Sound}
+use Rattle.drawing.specs.Divisions.{bins-of, BestOf}
 use Rattle.drawing.specs.Tables.{table-for}
 use Rattle.drawing.specs.Figures.{priced-of, compared-of}
 use Rattle.drawing.specs.Theorems.{Serves}

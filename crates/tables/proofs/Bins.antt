@@ -9,8 +9,8 @@ use lib.ListN.{length, getD, set, take, length-set}
 use native.Mathlib.Omega.{arith}
 use Rattle.std.specs.shelf.Lists.{leading}
 use Rattle.std.proofs.shelf.Tests.{lt-ltb, le-ltb, cases-lt, cases-eq}
-use Rattle.std.proofs.shelf.Lists.{getD-set-same, getD-set-other, getD-take, length-take-le, ext-getD}
-use Rattle.counting.proofs.Rows.{leading-is}
+use Rattle.std.proofs.shelf.Lists.{getD-set-same, getD-set-other, getD-take, length-take-le}
+use Rattle.counting.proofs.Rows.{leading-is, front-is}
 use Rattle.tables.specs.Table.{Table, Lawful}
 use Rattle.tables.specs.Meaning.{table-of}
 use Rattle.tables.specs.declared.table.LevelTable.{LevelTable}
@@ -58,12 +58,6 @@ module _ (bounds of-level : List ℕ) (bin level : ℕ) (b : Binning bounds of-l
     reached = (λ more. let h = still more in omega arith);
     found = next-found within;
   }
-
--- a list that begins with the numbers, as a front of it
-pub front-is : (numbers cells : List ℕ) → length numbers ≤ length cells → ((i : ℕ) → i < length numbers → getD cells i 0 ≡ getD numbers i 0) → take (length numbers) cells ≡ numbers
-front-is numbers cells short same =
-    let long = length-take-le (length numbers) cells short in
-    ext-getD 0 (take (length numbers) cells) numbers long (λ i h. let lt : i < length numbers = rw long at h in getD-take (length numbers) cells i 0 lt ∙ same i lt)
 
 -- a lawful table's bounds and representatives in longer lists, zeros after them
 module _ (t : Table) (law : Lawful t) (bounds greys : List ℕ) (wide : length bounds ≡ 256)

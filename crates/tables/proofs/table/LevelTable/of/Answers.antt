@@ -4,7 +4,8 @@ use Prim.Native.Nat.{ℕ}
 use native.Mathlib.Omega.{arith}
 use lib.ListN.{length, take}
 use Rattle.tables.specs.Table.{Table, given}
-use Rattle.tables.proofs.Bins.{front-is, long-rising, long-ends, long-greys, long-lowest}
+use Rattle.counting.proofs.Rows.{front-is}
+use Rattle.tables.proofs.Bins.{long-rising, long-ends, long-greys, long-lowest}
 use Rattle.tables.proofs.table.LevelTable.of.Needs as need
 
 pub ghost-result : need.ghost-result
