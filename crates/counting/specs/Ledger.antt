@@ -83,7 +83,7 @@ step g (withdrawn row) =
     (accepts (each-level g _-_ row)))
 step g cleared = (blank (g .levels), done)
 
--- The ledger after a run of calls from a fresh place, and what each of the calls was told.
+-- The ledger after a run of calls, and what each of the calls was told.
 abbrev pub after-from : Ledger → List Asked → Ledger
 after-from g [] = g
 after-from g (a ∷ rest) = after-from (step g a .0) rest

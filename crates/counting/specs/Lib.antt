@@ -5,4 +5,4 @@ pub mod Short
 pub mod Runs
 pub mod Extremes
 pub mod Outputs
-pub mod Lawful
+pub mod Sound

@@ -7,6 +7,7 @@ use denote.Ref.{now}
 use Rattle.counting.specs.Ledger.{Asked, opened, counted, withdrawn, cleared, Told, done, now-total, refused, step, after, told}
 use Rattle.counting.specs.Refusals.{refusal-number, carried}
 use Rattle.counting.specs.Meaning.{ledger-of}
+use Rattle.counting.specs.Sound.{Sound}
 use Rattle.counting.specs.declared.histogram.Histogram.{Histogram}
 use Rattle.counting.specs.declared.run.Answer.{Answer}
 use Rattle.counting.specs.declared.run.Answer.the-variants.{Done, Total, Refused}
@@ -41,8 +42,9 @@ abbrev pub performed : List Call → List Answer → List Asked
 performed calls answers = map asked (take (min (length calls) (length answers)) calls)
 
 -- A run from a fresh place: every answer, and the histogram at the end, are those of the ledger that was fed the calls' arguments.
--- The answers past the last call are as they were.
+-- The answers past the last call are as they were, and that ledger is a sound one.
 pub record Replayed (calls : List Call) (before : List Answer) (answers : List Answer) (place : Histogram) : Type 0 where
   pub tells : map told-of (take (min (length calls) (length before)) answers) ≡ told (performed calls before)
   pub rest : drop (min (length calls) (length before)) answers ≡ drop (min (length calls) (length before)) before
   pub ledger : ledger-of place ≡ after (performed calls before)
+  pub sound : Sound (after (performed calls before))

@@ -11,7 +11,7 @@ use Rattle.std.proofs.shelf.Lists.{getD-set-same, getD-set-other}
 use Rattle.counting.specs.Ledger.{Ledger, counted-levels, pixels-at}
 use Rattle.pricing.specs.Tallies.{Ops, Laws}
 use Rattle.pricing.specs.Prices.{Priceless, PricedAt}
-use Rattle.counting.specs.Lawful.{Lawful as Sound}
+use Rattle.counting.specs.Sound.{Sound}
 use Rattle.drawing.specs.Divisions.{level-at, representative, price}
 use Rattle.drawing.specs.Cells.{Lists}
 use Rattle.drawing.proofs.Places.{rank, rank-yes, rank-no, level-at-rank}

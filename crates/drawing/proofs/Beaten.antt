@@ -13,7 +13,7 @@ use Rattle.counting.specs.Ledger.{Ledger, counted-levels}
 use Rattle.pricing.specs.Tallies.{Ops, Laws, NotAbove}
 use Rattle.pricing.specs.Errors.{Fair}
 use Rattle.pricing.specs.Prices.{Counted, map-tally}
-use Rattle.counting.specs.Lawful.{Lawful as Sound}
+use Rattle.counting.specs.Sound.{Sound}
 use Rattle.drawing.specs.Divisions.{level-at, price, Divides, divided, Best, BestOf, tally-of}
 use Rattle.drawing.proofs.Order.{from-le, to-le, join-le}
 use Rattle.drawing.proofs.Divisions.{runs-le, singles, best-divides, best-among}

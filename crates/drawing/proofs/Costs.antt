@@ -10,7 +10,7 @@ use Rattle.std.proofs.shelf.Tests.{cases-bool, cond-true, cond-false, ltb-true}
 use Rattle.counting.specs.Ledger.{Ledger, pixels-at, counted-levels}
 use Rattle.pricing.specs.Tallies.{Ops, Laws, NotAbove}
 use Rattle.pricing.specs.Prices.{Counted, charged, costs}
-use Rattle.counting.specs.Lawful.{Lawful as Sound}
+use Rattle.counting.specs.Sound.{Sound}
 use Rattle.drawing.specs.Divisions.{level-at}
 use Rattle.drawing.proofs.Order.{same-le, join-le, joins-neutral, regroup}
 use Rattle.drawing.proofs.Places.{rank, rank-none, rank-yes, rank-no, rank-mono, rank-all, rank-past, level-at-rank, few-pixels, at, not-falling}

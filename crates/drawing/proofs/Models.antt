@@ -4,7 +4,7 @@ use native.Mathlib.Omega.{arith}
 use borrow.Author.Needs.{needs}
 use Rattle.pricing.specs.Tallies.{Laws}
 use Rattle.pricing.specs.Kinds.{worst-ops}
-use Rattle.counting.specs.Lawful.{Lawful as Sound}
+use Rattle.counting.specs.Sound.{Sound}
 use Rattle.drawing.specs.Samples.{four-levels}
 
 pub worst-laws : Laws worst-ops

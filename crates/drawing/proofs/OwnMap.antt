@@ -11,7 +11,7 @@ use Rattle.counting.specs.Ledger.{Ledger, counted-levels}
 use Rattle.pricing.specs.Tallies.{Ops, Laws}
 use Rattle.pricing.specs.Prices.{map-tally}
 use Rattle.tables.specs.Table.{shown-by}
-use Rattle.counting.specs.Lawful.{Lawful as Sound}
+use Rattle.counting.specs.Sound.{Sound}
 use Rattle.drawing.specs.Divisions.{level-at, representative, price, Divides, divided, tally-of}
 use Rattle.drawing.specs.Tables.{bins-below, table-to, table-by, table-for}
 use Rattle.drawing.proofs.Places.{at, rising, not-falling}

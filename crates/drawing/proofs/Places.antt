@@ -16,7 +16,7 @@ use Rattle.std.proofs.shelf.Sums.{getD-le-sumBy, length-kept-by}
 use Rattle.std.proofs.shelf.Tests.{cases-eq, cases-lt, cases-bool, cond-true, cond-false, lt-ltb, ltb-true}
 use Rattle.counting.specs.Ledger.{Ledger, pixels-at, counted-levels}
 use Rattle.pricing.specs.Prices.{Counted}
-use Rattle.counting.specs.Lawful.{Lawful as Sound}
+use Rattle.counting.specs.Sound.{Sound}
 use Rattle.drawing.specs.Divisions.{levels-of, level-at}
 
 pub counting-append : (a m n : ℕ) → counting a (m + n) ≡ counting a m ++ counting (a + m) n

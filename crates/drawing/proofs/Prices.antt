@@ -9,7 +9,7 @@ use Rattle.counting.specs.Ledger.{Ledger, counted-levels}
 use Rattle.pricing.specs.Tallies.{Ops, Laws, NotAbove}
 use Rattle.pricing.specs.Errors.{Fair, Between}
 use Rattle.pricing.specs.Prices.{InSpan, Priceless, PricedAt}
-use Rattle.counting.specs.Lawful.{Lawful as Sound}
+use Rattle.counting.specs.Sound.{Sound}
 use Rattle.drawing.specs.Divisions.{level-at, run-tally, representative, price}
 use Rattle.drawing.proofs.Order.{same-le, from-le, to-le, join-le, least-in, least-le, least-highest}
 use Rattle.drawing.proofs.Places.{at, not-falling, few-pixels}

@@ -13,7 +13,7 @@ use Rattle.pricing.specs.Errors.{Fair, SameErrors}
 use Rattle.pricing.specs.Prices.{map-tally}
 use Rattle.tables.specs.Table.{Table, Lawful, bin-of, shown-by}
 use Rattle.tables.proofs.Rows.{bin-inside}
-use Rattle.counting.specs.Lawful.{Lawful as Sound}
+use Rattle.counting.specs.Sound.{Sound}
 use Rattle.drawing.specs.Divisions.{price, divided, bins-of, BestOf, tally-of, Divides}
 use Rattle.drawing.specs.Figures.{priced-of, compared-of}
 use Rattle.drawing.specs.Tables.{table-for, table-to, table-by}

@@ -7,7 +7,7 @@ use Rattle.counting.specs.Ledger.{Ledger, counted-levels}
 use Rattle.pricing.specs.Tallies.{Ops}
 use Rattle.pricing.specs.Errors.{SameErrors}
 use Rattle.pricing.specs.Prices.{Counted, range-tally, map-tally, InSpan, PricedAt}
-use Rattle.counting.specs.Lawful.{Lawful as Sound}
+use Rattle.counting.specs.Sound.{Sound}
 use Rattle.drawing.specs.Divisions.{level-at, run-tally, representative, price, Divides, divided, BestOf}
 use Rattle.drawing.specs.Tables.{bins-below, table-to}
 use Rattle.drawing.proofs.Order.{least-ext}

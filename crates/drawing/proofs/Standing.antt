@@ -12,7 +12,7 @@ use Rattle.std.proofs.shelf.Tests.{cases-lt}
 use Rattle.counting.specs.Ledger.{Ledger, counted-levels}
 use Rattle.pricing.specs.Tallies.{Ops}
 use Rattle.tables.specs.Table.{Lawful}
-use Rattle.counting.specs.Lawful.{Lawful as Sound}
+use Rattle.counting.specs.Sound.{Sound}
 use Rattle.drawing.specs.Divisions.{level-at, representative, Divides}
 use Rattle.drawing.specs.Tables.{bins-below, table-to, table-by}
 use Rattle.drawing.proofs.Places.{at, rising}

@@ -14,7 +14,7 @@ use Rattle.pricing.specs.Plain.{plain}
 use Rattle.pricing.specs.Prices.{Counted, map-tally}
 use Rattle.pricing.specs.declared.tallies.total.Total.{Total}
 use Rattle.pricing.proofs.PlainSums.{costs-plain}
-use Rattle.counting.specs.Lawful.{Lawful as Sound}
+use Rattle.counting.specs.Sound.{Sound}
 use Rattle.drawing.proofs.Costs.{costs-ext}
 
 -- only the numbers at counted levels matter

@@ -8,7 +8,7 @@ use native.Mathlib.Omega.{arith}
 use Rattle.std.proofs.shelf.Lists.{append-assoc, append-nil, map-push, drop-set, drop-all, set-at, length-push, length-map}
 use Rattle.counting.specs.Ledger.{Ledger, counted-levels}
 use Rattle.pricing.specs.Tallies.{Ops, Laws}
-use Rattle.counting.specs.Lawful.{Lawful as Sound}
+use Rattle.counting.specs.Sound.{Sound}
 use Rattle.drawing.specs.Divisions.{level-at, representative, price, Divides}
 use Rattle.drawing.specs.Cells.{Needed, Cell, Searched, best-division}
 use Rattle.drawing.specs.Tables.{bins-below, table-to, table-by, table-for}

@@ -25,7 +25,7 @@ use Rattle.pricing.specs.Prices.{map-tally}
 use Rattle.tables.specs.Table.{Table, shown-by}
 use Rattle.tables.specs.Meaning.{table-of}
 use Rattle.tables.specs.declared.table.LevelTable.{LevelTable}
-use Rattle.counting.specs.Lawful.{Lawful as Sound}
+use Rattle.counting.specs.Sound.{Sound}
 use Rattle.drawing.specs.Divisions.{bins-of, BestOf}
 use Rattle.drawing.specs.Tables.{table-for}
 use Rattle.drawing.specs.Figures.{priced-of, compared-of}
@@ -62,7 +62,7 @@ pub record Drew {C : Type 0} (o : Ops C) (error : ℕ → ℕ → ℕ) (g : Ledg
   -- with a bin for each counted level nothing is lost
   pub enough : counted-levels g ≤ most → receipt .tally ≡ o .neutral
 
--- The whole of a drawing, for a pricer whose meaning is `error`: what it returns, and what every place and list holds afterwards.
+-- The whole of a drawing, for a pricer whose meaning is `error`: what it returns, and what every place and list holds afterwards (but for the work lists of an accepted drawing, which are free).
 pub record Drawing {C P : Type 0} (o : Ops C) (error : P → ℕ → ℕ → ℕ) (g : Ledger) (most : ℕ) (result : Result (Receipt C) Refusal)
     (pricer pricer′ : P) (tallies tallies′ : List C) (links links′ : List ℕ) (table table′ : LevelTable) : Type 0 where
   pub refused-exactly : Judged (draw-row g most (min (length tallies) (length links))) result

@@ -13,7 +13,7 @@ use Rattle.pricing.specs.Kinds.{total-ops}
 use Rattle.pricing.specs.Plain.{plain}
 use Rattle.pricing.specs.Prices.{Counted, map-tally, PricedAt}
 use Rattle.tables.specs.Table.{Lawful, shown-by}
-use Rattle.counting.specs.Lawful.{Lawful as Sound}
+use Rattle.counting.specs.Sound.{Sound}
 use Rattle.drawing.specs.Divisions.{levels-of, level-at, run-tally, representative, price, Divides, BestOf, tally-of}
 use Rattle.drawing.specs.Tables.{table-for}
 use Rattle.drawing.specs.Figures.{PathStep, path-step, candidate}

@@ -11,14 +11,14 @@ ghost use Rattle.pricing.specs.Plain.{plain};
 ghost use Rattle.pricing.specs.Prices.{range-tally, map-tally, PricedAt};
 ghost use Rattle.pricing.specs.Tallies.{Laws};
 ghost use Rattle.tables.specs.Table.{given, Lawful, shown-by};
-ghost use Rattle.counting.specs.Lawful.{Lawful as Sound};
+ghost use Rattle.counting.specs.Sound.{Sound};
 ghost use Rattle.drawing.specs.Divisions.{BestOf, tally-of};
 ghost use Rattle.drawing.specs.Figures.{priced-of, compared-of, PathStep};
 ghost use Rattle.drawing.specs.Samples.{four-levels, two-levels, Totals, Worsts};
 ghost use Rattle.drawing.specs.Theorems.{Serves};
 
 // Each table is given by its levels, its bounds and its representatives, with the tally after it.
-pub fn worked_cases() -> u8
+pub fn worked_cases()
     ensures one { λ _. ⌜ Totals squared four-levels 1 (given 8 (7 ∷ []) (4 ∷ [])) 64 ⌝ }
     ensures two { λ _. ⌜ Totals squared four-levels 2 (given 8 (4 ∷ 7 ∷ []) (2 ∷ 7 ∷ [])) 8 ⌝ }
     ensures three { λ _. ⌜ Totals squared four-levels 3 (given 8 (1 ∷ 4 ∷ 7 ∷ []) (1 ∷ 4 ∷ 7 ∷ [])) 1 ⌝ }
@@ -32,13 +32,11 @@ pub fn worked_cases() -> u8
     ensures weights { λ _. ⌜ Totals (weighed (1 ∷ 1 ∷ 1 ∷ 1 ∷ 1 ∷ 1 ∷ 1 ∷ 0 ∷ []) squared) four-levels 1 (given 8 (7 ∷ []) (2 ∷ [])) 8 ⌝ }
     ensures ceiling { λ _. ⌜ Worsts (capped 9 squared) four-levels 1 (given 8 (7 ∷ []) (7 ∷ [])) 9 ⌝ }
     ensures pair { λ _. ⌜ Totals squared two-levels 1 (given 8 (7 ∷ []) (4 ∷ [])) 1 ⌝ }
-{
-    0
-}
+{}
 
 // The theorems at the first ledger and the squared total: what they ask for can be met, and this is what they say there.
 // The map of `scattered` sends the levels 1, 4 and 7 to one grey and the level 3 to another.
-pub fn theorems_at_the_cases() -> u8
+pub fn theorems_at_the_cases()
     ensures models { λ _. ⌜ Laws total-ops × Laws worst-ops × Fair squared × Sound four-levels ⌝ }
     ensures layers { λ _. ⌜ Fair (allowed 4 squared) × Fair (weighed (1 ∷ 1 ∷ 1 ∷ 1 ∷ 1 ∷ 1 ∷ 1 ∷ 0 ∷ []) squared) × Fair (capped 9 squared) ⌝ }
     ensures answered { λ _. ⌜ PricedAt total-ops squared four-levels 1 7 4 (held 64) ⌝ }
@@ -52,6 +50,4 @@ pub fn theorems_at_the_cases() -> u8
     ensures summed { λ _. ⌜ plain four-levels (λ k. squared k (shown-by (given 8 (4 ∷ 7 ∷ []) (2 ∷ 7 ∷ [])) k)) 0 8 ≡ 8 ⌝ }
     ensures stands { λ _. ⌜ Lawful (given 8 (4 ∷ 7 ∷ []) (2 ∷ 7 ∷ [])) ⌝ }
     ensures step { λ _. ⌜ PathStep 4 3 1 2 1 ⌝ }
-{
-    0
-}
+{}

@@ -20,33 +20,33 @@ fn enter<T: Tally>(
     row: usize,
     before: usize,
     count: usize,
-    price: T,
+    amount: T,
     start: u16,
 )
     requires { ⌜ (row + count ≤ length (now tallies)) × (row + count ≤ length (now links)) × (before + count ≤ row) ⌝ }
-    ensures { λ _. ⌜ Turned (T·Tally .ops) (λ _ _. false) price start row before count (now (tallies .entry)) (now (tallies .exit)) (now (links .entry)) (now (links .exit)) ⌝ }
+    ensures { λ _. ⌜ Turned (T·Tally .ops) (λ _ _. false) amount start row before count (now (tallies .entry)) (now (tallies .exit)) (now (links .entry)) (now (links .exit)) ⌝ }
 {
     for k in 0..count {
-        tallies[row + k] = price.join(tallies[before + k]);
+        tallies[row + k] = amount.join(tallies[before + k]);
         links[row + k] = start;
     }
 }
 
-// The same where the cells hold what longer starts gave: only what is lower replaces it.
+// The same where the cells hold what later starts gave: only what is lower replaces it.
 fn relax<T: Tally>(
     tallies: &mut [T],
     links: &mut [u16],
     row: usize,
     before: usize,
     count: usize,
-    price: T,
+    amount: T,
     start: u16,
 )
     requires { ⌜ (row + count ≤ length (now tallies)) × (row + count ≤ length (now links)) × (before + count ≤ row) ⌝ }
-    ensures { λ _. ⌜ Turned (T·Tally .ops) (T·Tally .ops .not-above) price start row before count (now (tallies .entry)) (now (tallies .exit)) (now (links .entry)) (now (links .exit)) ⌝ }
+    ensures { λ _. ⌜ Turned (T·Tally .ops) (T·Tally .ops .not-above) amount start row before count (now (tallies .entry)) (now (tallies .exit)) (now (links .entry)) (now (links .exit)) ⌝ }
 {
     for k in 0..count {
-        let joined = price.join(tallies[before + k]);
+        let joined = amount.join(tallies[before + k]);
         if !tallies[row + k].not_above(joined) {
             tallies[row + k] = joined;
             links[row + k] = start;
@@ -73,13 +73,13 @@ fn place_run<T: Tally>(
     bins: usize,
     start: usize,
     end: usize,
-    price: T,
+    amount: T,
 )
     requires { ⌜ (0 < bins) × (bins ≤ counted) × (counted ≤ 1024) × (start ≤ end) × (end < counted) × (counted * bins ≤ length (now tallies)) × (counted * bins ≤ length (now links)) ⌝ }
-    ensures { λ _. ⌜ ((cost : ℕ → ℕ → T) → price ≡ cost start (end + 1 - start) → Searched (T·Tally .ops) cost counted bins (end + 1) (start + 1) (now (tallies .entry)) (now (links .entry)) → Searched (T·Tally .ops) cost counted bins (end + 1) start (now (tallies .exit)) (now (links .exit))) ⌝ }
+    ensures { λ _. ⌜ ((cost : ℕ → ℕ → T) → amount ≡ cost start (end + 1 - start) → Searched (T·Tally .ops) cost counted bins (end + 1) (start + 1) (now (tallies .entry)) (now (links .entry)) → Searched (T·Tally .ops) cost counted bins (end + 1) start (now (tallies .exit)) (now (links .exit))) ⌝ }
 {
     if start == 0 {
-        tallies[end * bins] = price;
+        tallies[end * bins] = amount;
         links[end * bins] = 0;
         return;
     }
@@ -87,9 +87,9 @@ fn place_run<T: Tally>(
     let row = end * bins + from;
     let before = (start - 1) * bins + (from - 1);
     if start == end {
-        enter(tallies, links, row, before, to - from, price, start as u16);
+        enter(tallies, links, row, before, to - from, amount, start as u16);
     } else {
-        relax(tallies, links, row, before, to - from, price, start as u16);
+        relax(tallies, links, row, before, to - from, amount, start as u16);
     }
 }
 

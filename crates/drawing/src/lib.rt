@@ -1,4 +1,4 @@
-// Drawing up the level table of least tally, and the theorems behind it: each function of this file answers 0, and its contract is a theorem.
+// Drawing up the level table of least tally, and the theorems behind it: each function of this file does nothing, and its contract is a theorem.
 ghost use Rattle.drawing.specs.Drawings.{Drawn-totals-are-plain};
 ghost use Rattle.drawing.specs.Theorems.{Counted-levels-are-listed, Prices-are-answers, No-level-beats-the-price, One-best-division, More-bins-never-cost-more, Enough-bins-cost-nothing, Never-beaten, Charged-once, Totals-are-plain-sums, Tables-stand, Path-steps-are-tested};
 use pricing::Tally;
@@ -24,85 +24,61 @@ pub use receipt::ReceiptDebug;
 pub use receipt::ReceiptPartialEq;
 
 // The counted levels of a ledger are listed in rising order, each of them once.
-pub fn counted_levels_are_listed() -> u8
+pub fn counted_levels_are_listed()
     ensures { λ _. ⌜ Counted-levels-are-listed ⌝ }
-{
-    0
-}
+{}
 
 // A run's representative and price are what a pricer answers, and a pricer can answer nothing else.
-pub fn prices_are_answers<T: Tally>() -> u8
+pub fn prices_are_answers<T: Tally>()
     ensures { λ _. ⌜ Prices-are-answers T ⌝ }
-{
-    0
-}
+{}
 
 // The price of a run is not above the tally of showing its levels as any one level.
-pub fn no_level_beats_the_price<T: Tally>() -> u8
+pub fn no_level_beats_the_price<T: Tally>()
     ensures { λ _. ⌜ No-level-beats-the-price T ⌝ }
-{
-    0
-}
+{}
 
 // There is a best division, and only one.
-pub fn one_best_division<T: Tally>() -> u8
+pub fn one_best_division<T: Tally>()
     ensures { λ _. ⌜ One-best-division T ⌝ }
-{
-    0
-}
+{}
 
 // More bins never raise the least tally.
-pub fn more_bins_never_cost_more<T: Tally>() -> u8
+pub fn more_bins_never_cost_more<T: Tally>()
     ensures { λ _. ⌜ More-bins-never-cost-more T ⌝ }
-{
-    0
-}
+{}
 
 // With a bin for each counted level the least tally is neutral.
-pub fn enough_bins_cost_nothing<T: Tally>() -> u8
+pub fn enough_bins_cost_nothing<T: Tally>()
     ensures { λ _. ⌜ Enough-bins-cost-nothing T ⌝ }
-{
-    0
-}
+{}
 
 // No map of the levels to as few shown levels, grouped or scattered, tallies lower than the best division.
-pub fn never_beaten<T: Tally>() -> u8
+pub fn never_beaten<T: Tally>()
     ensures { λ _. ⌜ Never-beaten T ⌝ }
-{
-    0
-}
+{}
 
 // The table's own map tallies exactly what its division does.
-pub fn charged_once<T: Tally>() -> u8
+pub fn charged_once<T: Tally>()
     ensures { λ _. ⌜ Charged-once T ⌝ }
-{
-    0
-}
+{}
 
 // Under `Total` the tally of a map is the plain sum of pixels times error: the hold is not reached.
-pub fn totals_are_plain_sums() -> u8
+pub fn totals_are_plain_sums()
     ensures { λ _. ⌜ Totals-are-plain-sums ⌝ }
-{
-    0
-}
+{}
 
 // So a drawing by `Total` returns the plain sum, over the ledger, of pixels times the error of showing them as the table does.
-pub fn drawn_totals_are_plain() -> u8
+pub fn drawn_totals_are_plain()
     ensures { λ _. ⌜ Drawn-totals-are-plain ⌝ }
-{
-    0
-}
+{}
 
 // The table of a division into 1 to 256 runs keeps the rules of a table.
-pub fn tables_stand<T: Tally>() -> u8
+pub fn tables_stand<T: Tally>()
     ensures { λ _. ⌜ Tables-stand T ⌝ }
-{
-    0
-}
+{}
 
 // What is counted as a path step is a run with a bin number that it has in some division, and every such pair is counted.
-pub fn path_steps_are_tested() -> u8
+pub fn path_steps_are_tested()
     ensures { λ _. ⌜ Path-steps-are-tested ⌝ }
-{
-    0
-}
+{}

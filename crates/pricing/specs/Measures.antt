@@ -15,7 +15,7 @@ squared k r = distance k r * distance k r
 abbrev pub weight-at : List ℕ → ℕ → ℕ
 weight-at weights k = getD weights k 1
 
--- the error times the weight of the level that is shown, held at 2 ^ 32 - 1
+-- the error times the weight of the level k, held at 2 ^ 32 - 1
 abbrev pub weighed : List ℕ → (ℕ → ℕ → ℕ) → ℕ → ℕ → ℕ
 weighed weights error k r = min (weight-at weights k * error k r) 4294967295
 

@@ -24,7 +24,11 @@ fn farthest(row: &[u16], greys: &[u16]) -> u16 {
 }
 
 /// Indexes and shows the slip row by row.
-pub fn show_scan(heap: Global, table: &LevelTable, scan: &Scan) -> Result<Result<Shown, Refusal>, AllocError> {
+pub fn show_scan(
+    heap: Global,
+    table: &LevelTable,
+    scan: &Scan,
+) -> Result<Result<Shown, Refusal>, AllocError> {
     let width = usize::from(scan.width);
     let mut indices = Vec::new(heap);
     let mut greys = Vec::new(heap);
@@ -33,14 +37,22 @@ pub fn show_scan(heap: Global, table: &LevelTable, scan: &Scan) -> Result<Result
     let mut grey_row = vec![in heap; 0u16; width]?;
     for y in 0..scan.height {
         let row = scan.row(y);
-        if let Err(refusal) = table.index_and_show(row, index_row.as_mut_slice(), grey_row.as_mut_slice()) {
+        if let Err(refusal) = table.index_and_show(
+            row,
+            index_row.as_mut_slice(),
+            grey_row.as_mut_slice(),
+        ) {
             return Ok(Err(refusal));
         }
         indices.extend_from_slice(index_row.as_slice())?;
         greys.extend_from_slice(grey_row.as_slice())?;
         most = farthest(row, grey_row.as_slice()).max(most);
     }
-    Ok(Ok(Shown { indices, greys, farthest: most }))
+    Ok(Ok(Shown {
+        indices,
+        greys,
+        farthest: most,
+    }))
 }
 
 /// The reduced picture in the PGM format, P5, with the scan's size and maximum value.

@@ -58,7 +58,10 @@ fn counted(rt: &LibcRuntime, histogram: &Histogram) -> io::Result<()> {
     let counted = histogram.counted_levels();
     let darkest = histogram.darkest().unwrap_or(0);
     let palest = histogram.palest().unwrap_or(0);
-    println!(rt, "counted levels: {counted}, from {darkest} (darkest) to {palest} (palest)")
+    println!(
+        rt,
+        "counted levels: {counted}, from {darkest} (darkest) to {palest} (palest)"
+    )
 }
 
 /// A call that is refused, and leaves the histogram as it was.
@@ -69,7 +72,10 @@ fn refused(rt: &LibcRuntime, histogram: &mut Histogram) -> io::Result<()> {
         Ok(total) => println!(rt, "count of a row with level {paler}: total {total}"),
         Err(refusal) => {
             let after = histogram.total();
-            println!(rt, "count of a row with level {paler}: refused {refusal}; total {before} before, {after} after")
+            println!(
+                rt,
+                "count of a row with level {paler}: refused {refusal}; total {before} before, {after} after"
+            )
         }
     }
 }
@@ -83,21 +89,39 @@ fn one_grey(rt: &LibcRuntime, histogram: &Histogram) -> io::Result<()> {
         (Some(tried), Some(mean)) => {
             let (grey, sum) = (tried.0, tried.1.sum);
             let (mean_grey, mean_sum) = (mean.0, mean.1.sum);
-            println!(rt, "one grey: {grey} for {sum} by trying each, {mean_grey} for {mean_sum} by the mean")
+            println!(
+                rt,
+                "one grey: {grey} for {sum} by trying each, {mean_grey} for {mean_sum} by the mean"
+            )
         }
         _ => println!(rt, "one grey: no pixels"),
     }
 }
 
 /// The table, and what it is worth; false where the drawing was refused.
-fn drawn(rt: &LibcRuntime, histogram: &Histogram, greys: u16, table: &mut LevelTable) -> io::Result<bool> {
+fn drawn(
+    rt: &LibcRuntime,
+    histogram: &Histogram,
+    greys: u16,
+    table: &mut LevelTable,
+) -> io::Result<bool> {
     let counted = histogram.counted_levels();
     let cells = usize::from(counted) * usize::from(bins(counted, greys));
     let mut tallies = vec![in rt.alloc(); Total { sum: 0 }; cells]?;
     let mut links = vec![in rt.alloc(); 0u16; cells]?;
-    match draw(&mut CentroidPricer::new(), histogram, greys, tallies.as_mut_slice(), links.as_mut_slice(), table) {
+    match draw(
+        &mut CentroidPricer::new(),
+        histogram,
+        greys,
+        tallies.as_mut_slice(),
+        links.as_mut_slice(),
+        table,
+    ) {
         Ok(receipt) => {
-            println!(rt, "draw: at most {greys} bins, with {cells} work cells of each kind")?;
+            println!(
+                rt,
+                "draw: at most {greys} bins, with {cells} work cells of each kind"
+            )?;
             worth(rt, histogram, table, &receipt)?;
             Ok(true)
         }
@@ -108,7 +132,12 @@ fn drawn(rt: &LibcRuntime, histogram: &Histogram, greys: u16, table: &mut LevelT
     }
 }
 
-fn worth(rt: &LibcRuntime, histogram: &Histogram, table: &LevelTable, receipt: &Receipt<Total>) -> io::Result<()> {
+fn worth(
+    rt: &LibcRuntime,
+    histogram: &Histogram,
+    table: &LevelTable,
+    receipt: &Receipt<Total>,
+) -> io::Result<()> {
     let mut first = 0u16;
     for bin in 0..table.bins() {
         let bound = table.bound(bin);
@@ -126,16 +155,30 @@ fn worth(rt: &LibcRuntime, histogram: &Histogram, table: &LevelTable, receipt: &
 }
 
 /// The table file written and read back, and every row indexed and shown by the table that was read.
-fn stored(rt: &LibcRuntime, scan: &Scan, histogram: &Histogram, table: &LevelTable) -> io::Result<Option<Made>> {
+fn stored(
+    rt: &LibcRuntime,
+    scan: &Scan,
+    histogram: &Histogram,
+    table: &LevelTable,
+) -> io::Result<Option<Made>> {
     let room = 7 + 6 * usize::from(histogram.counted_levels()) + 4 * usize::from(table.bins());
     let mut file = vec![in rt.alloc(); 0u8; room]?;
     let mut histogram_back = Histogram::fresh();
     let mut table_back = LevelTable::fresh();
-    match round_trip(histogram, table, file.as_mut_slice(), &mut histogram_back, &mut table_back) {
+    match round_trip(
+        histogram,
+        table,
+        file.as_mut_slice(),
+        &mut histogram_back,
+        &mut table_back,
+    ) {
         Ok(written) => {
             let total = histogram_back.total();
             let bins = table_back.bins();
-            println!(rt, "table file: {written} bytes, read back with total {total} and {bins} bins")?;
+            println!(
+                rt,
+                "table file: {written} bytes, read back with total {total} and {bins} bins"
+            )?;
             shown(rt, scan, &table_back, file)
         }
         Err(refusal) => {
@@ -145,16 +188,27 @@ fn stored(rt: &LibcRuntime, scan: &Scan, histogram: &Histogram, table: &LevelTab
     }
 }
 
-fn shown(rt: &LibcRuntime, scan: &Scan, table: &LevelTable, table_file: Vec<u8>) -> io::Result<Option<Made>> {
+fn shown(
+    rt: &LibcRuntime,
+    scan: &Scan,
+    table: &LevelTable,
+    table_file: Vec<u8>,
+) -> io::Result<Option<Made>> {
     match show_scan(rt.alloc(), table, scan)? {
         Ok(slip) => {
             let before = scan.pixels.len().saturating_mul(2);
             let after = slip.indices.len();
             let farthest = slip.farthest;
-            println!(rt, "rows: {before} bytes of pixels before, {after} bytes of indices after")?;
+            println!(
+                rt,
+                "rows: {before} bytes of pixels before, {after} bytes of indices after"
+            )?;
             println!(rt, "largest error of any pixel: {farthest} levels")?;
             let picture = picture(rt.alloc(), scan, slip.greys.as_slice())?;
-            Ok(Some(Made { table_file, picture }))
+            Ok(Some(Made {
+                table_file,
+                picture,
+            }))
         }
         Err(refusal) => {
             println!(rt, "rows: refused {refusal}")?;

@@ -24,7 +24,7 @@ use Rattle.tablefile.specs.Theorems.{Pair}
 use Rattle.tablefile.proofs.Faults.{none-some}
 use Rattle.tablefile.proofs.Meaning.{pairs-apart}
 use Rattle.tablefile.proofs.Pairs.{pair-faultless}
-use Rattle.counting.proofs.Ledgers.{lawful-histogram}
+use Rattle.counting.proofs.Ledgers.{sound-histogram}
 
 -- where no row fits, the numbers of levels are the same
 same-levels : (g : Ledger) (t : Table) (room : ℕ) → write-row g t room ≡ None → g .levels ≡ t .levels
@@ -38,7 +38,7 @@ module _ (h : Histogram) (t : LevelTable) (out then : List ℕ) (room written : 
     (number : written ≡ length (bytes-of (ledger-of h) (table-of t)))
     (front : then ≡ over (bytes-of (ledger-of h) (table-of t)) out) where
   pair : Pair (ledger-of h) (table-of t)
-  pair = record { histogram = lawful-histogram h; table = lawful-table t; same = same-levels (ledger-of h) (table-of t) room none }
+  pair = record { histogram = sound-histogram h; table = lawful-table t; same = same-levels (ledger-of h) (table-of t) room none }
 
   part-is : take (written - 0) then ≡ bytes-of (ledger-of h) (table-of t)
   part-is =
@@ -52,5 +52,5 @@ module _ (h : Histogram) (t : LevelTable) (out then : List ℕ) (room written : 
   pub same-pair : (back : Histogram) (table-back : LevelTable) → Reads (take (written - 0) then) (ledger-of back) (table-of table-back) →
       (ledger-of back ≡ ledger-of h) × (table-of table-back ≡ table-of t)
   same-pair back table-back reads =
-      let other : Pair (ledger-of back) (table-of table-back) = record { histogram = lawful-histogram back; table = lawful-table table-back; same = reads .2 } in
+      let other : Pair (ledger-of back) (table-of table-back) = record { histogram = sound-histogram back; table = lawful-table table-back; same = reads .2 } in
       pairs-apart (ledger-of back) (ledger-of h) (table-of table-back) (table-of t) other pair (reads .1 ∙ part-is)

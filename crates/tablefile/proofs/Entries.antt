@@ -10,7 +10,7 @@ use mathlib.Core.Bool.{true}
 use Rattle.std.specs.declared.option.Option.the-variants.{None}
 use Rattle.std.proofs.shelf.Tests.{and-parts, leb-true, ltb-true}
 use Rattle.std.proofs.shelf.Lists.{length-take-le}
-use Rattle.counting.specs.Lawful.{Lawful, of-pixels}
+use Rattle.counting.specs.Sound.{Sound, of-pixels}
 use Rattle.tablefile.specs.Fields.{level-place, level-in, pixels-in}
 use Rattle.tablefile.specs.Faults.{first-of, part-fault, level-rule, level-fault, least-next, pixels-before}
 use Rattle.tablefile.specs.Parts.{pixels-upto}
@@ -84,7 +84,7 @@ module _ (file : List ℕ) (levels n : ℕ) (none : first-of (level-fault file l
     made-long : length made ≡ levels
     made-long = let wide = upto-wide file levels n (range .1) entries n in length-take-le levels (pixels-upto file n) (omega (arith, range))
 
-    pub made-lawful : Lawful (of-pixels made)
+    pub made-lawful : Sound (of-pixels made)
     made-lawful = record {
       range = rw made-long range;
       width = refl;

@@ -17,7 +17,7 @@ use Rattle.std.proofs.shelf.Sums.{getD-le-sumBy, length-kept-by, countBy-le-len
 use Rattle.std.proofs.shelf.Counted.{length-counting, getD-counting}
 use Rattle.std.proofs.shelf.Tests.{cases-lt}
 use Rattle.counting.specs.Ledger.{Ledger, pixels-at}
-use Rattle.counting.specs.Lawful.{Lawful as LawfulLedger}
+use Rattle.counting.specs.Sound.{Sound}
 use Rattle.tables.specs.Table.{Table, bound-of, representative-of}
 use Rattle.tablefile.specs.Numbers.{word, long}
 use Rattle.tablefile.specs.Bytes.{head-bytes, counted-of, level-bytes, levels-bytes, bin-bytes, bins-bytes, bytes-of}
@@ -95,7 +95,7 @@ listed-pair file none =
     let k = levels-in file in
     let range : (2 ≤ k) × (k ≤ 1024) = (fine .head .1, fine .head .2) in
     record {
-      histogram = subst LawfulLedger (made-ledger file k _ (fine .levels .2) range) (made-lawful file k _ (fine .levels .2) range);
+      histogram = subst Sound (made-ledger file k _ (fine .levels .2) range) (made-lawful file k _ (fine .levels .2) range);
       table = table-lawful file k (bins-place file) (fine .bins .4) range (fine .bins .1) (fine .bins .2);
       same = refl;
     }

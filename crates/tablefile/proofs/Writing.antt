@@ -19,7 +19,6 @@ use Rattle.std.proofs.shelf.Sums.{countBy-more-yes, countBy-more-no}
 use Rattle.std.proofs.shelf.Counted.{length-counting}
 use Rattle.std.proofs.shelf.Tests.{cases-bool, lt-ltb, le-ltb, eq-eqb}
 use Rattle.counting.specs.Ledger.{Ledger, pixels-at, counted-levels}
-use Rattle.counting.specs.Lawful.{Lawful}
 use Rattle.counting.specs.Meaning.{ledger-of}
 use Rattle.counting.specs.Outputs.{over}
 use Rattle.counting.specs.declared.histogram.Histogram.{Histogram}

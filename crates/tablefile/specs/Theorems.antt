@@ -5,7 +5,7 @@ use mathlib.Core.List.{List}
 use lib.ListN.{getD}
 use Rattle.std.specs.declared.option.Option.the-variants.{None}
 use Rattle.counting.specs.Ledger.{Ledger}
-use Rattle.counting.specs.Lawful.{Lawful as LawfulLedger}
+use Rattle.counting.specs.Sound.{Sound}
 use Rattle.tables.specs.Table.{Table, Lawful as LawfulTable}
 use Rattle.tablefile.specs.Bytes.{bytes-of}
 use Rattle.tablefile.specs.Faults.{first-fault}
@@ -13,7 +13,7 @@ use Rattle.tablefile.specs.Promises.{Reads}
 
 -- the pairs that have a file
 pub record Pair (g : Ledger) (t : Table) : Type 0 where
-  pub histogram : LawfulLedger g
+  pub histogram : Sound g
   pub table : LawfulTable t
   pub same : g .levels ≡ t .levels
 

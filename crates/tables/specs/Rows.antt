@@ -29,7 +29,7 @@ shown-row t row = map (shown-by t) row
 abbrev pub first-no-bin : Table → List ℕ → ℕ
 first-no-bin t indices = leading (λ i. ltb i (length (t .bounds))) indices
 
--- the output has room for `needed` cells
+-- the refusal of an output of `room` cells that is too short for `needed`
 abbrev pub room-row : ℕ → ℕ → Option Row
 room-row room needed = cond (ltb room needed) (Some (10, needed ∷ [])) None
 

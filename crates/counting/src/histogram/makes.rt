@@ -4,7 +4,7 @@ ghost use Prim.Native.Nat.{ℕ, _≤_, _<_};
 ghost use lib.ListN.{length, getD};
 ghost use Rattle.std.specs.Options.{Cases as BySome};
 ghost use Rattle.std.specs.shelf.Lists.{sum};
-ghost use Rattle.counting.specs.Lawful.{Lawful, of-pixels};
+ghost use Rattle.counting.specs.Sound.{Sound, of-pixels};
 ghost use Rattle.counting.specs.Meaning.{ledger-of};
 use super::Histogram;
 
@@ -36,7 +36,7 @@ fn padded(numbers: &[u32]) -> [u32; 1024]
 impl Histogram {
     // The histogram with these pixels at its levels, if they are 2 to 1,024 and their sum is at most 4,294,967,295.
     pub fn of(pixels: &[u32]) -> Option<Histogram>
-        ensures { λ r. ⌜ BySome r (Lawful (of-pixels (now (pixels .entry))) → ⊥) (λ h. ledger-of h ≡ of-pixels (now (pixels .entry))) ⌝ }
+        ensures { λ r. ⌜ BySome r (Sound (of-pixels (now (pixels .entry))) → ⊥) (λ h. ledger-of h ≡ of-pixels (now (pixels .entry))) ⌝ }
     {
         if pixels.len() < 2 || pixels.len() > 1024 {
             return None;

@@ -7,7 +7,7 @@ ghost use Rattle.pricing.specs.contracts.layers.errors.WeightMeasure.the-impl.
 use super::weight_list::WeightList;
 use crate::measure::Measure;
 
-// The error of the measure below times the weight of the level that is shown.
+// The error of the measure below times the weight of the level k, whose pixels are shown.
 #[derive(Drop)]
 pub struct Weight<M> {
     pub(super) measure: M,

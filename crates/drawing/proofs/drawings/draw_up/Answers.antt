@@ -8,7 +8,7 @@ use Rattle.counting.specs.Meaning.{ledger-of}
 use Rattle.pricing.specs.Errors.{SameErrors}
 use Rattle.drawing.specs.Divisions.{bins-of}
 use Rattle.drawing.specs.Figures.{candidates, path-steps}
-use Rattle.counting.proofs.Ledgers.{lawful-histogram}
+use Rattle.counting.proofs.Ledgers.{sound-histogram}
 use Rattle.drawing.proofs.Placed.{row-below}
 use Rattle.drawing.proofs.Promised.{searched-same, table-for-same, last-tally, drew}
 use Rattle.drawing.proofs.drawings.draw_up.Needs as need
@@ -29,7 +29,7 @@ table-of-links-requires g c κs =
       shape = (omega (arith, c .bins .ensures, number), omega (arith, c .bins .ensures), omega (arith, c .bins .ensures), number);
       lists = c .list-levels-counted .ensures .lists;
       searched = searched-same (g .Kind·Tally .ops) (g .Kind·Tally·met .laws) (g .P·Measure .error (c .args .pricer .now)) (g .P·Measure .error (c .fill .last .pricer)) (λ k r a b. sym (c .fill .ensures .same k r a b))
-          (ledger-of h) (lawful-histogram h) (c .list-levels-counted .result) (c .from-bins .result) (c .fill .last .tallies) (c .fill .last .links) number (c .fill .ensures .after);
+          (ledger-of h) (sound-histogram h) (c .list-levels-counted .result) (c .from-bins .result) (c .fill .last .tallies) (c .fill .last .links) number (c .fill .ensures .after);
     }
 
 pub returns : need.returns
@@ -39,7 +39,7 @@ returns g c =
     let error = g .P·Measure .error (c .args .pricer .now) in
     let h = c .args .histogram .now in
     let led = ledger-of h in
-    let S = lawful-histogram h in
+    let S = sound-histogram h in
     let counted = c .list-levels-counted .result in
     let bins = c .from-bins .result in
     let number = c .list-levels-counted .ensures .number in

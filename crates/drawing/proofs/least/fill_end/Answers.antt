@@ -5,7 +5,7 @@ use Rattle.counting.specs.Meaning.{ledger-of}
 use Rattle.pricing.specs.Errors.{SameErrors}
 use Rattle.drawing.specs.Divisions.{price}
 use Rattle.drawing.specs.Cells.{Searched}
-use Rattle.counting.proofs.Ledgers.{lawful-histogram}
+use Rattle.counting.proofs.Ledgers.{sound-histogram}
 use Rattle.drawing.proofs.Same.{price-same}
 use Rattle.drawing.proofs.Placed.{row-filled}
 use Rattle.drawing.proofs.least.fill_end.Needs as need
@@ -21,7 +21,7 @@ loop-start-again g c =
       (λ k r a b. c .price-run-price .ensures .same k r a b ∙ inv .0 k r a b),
       λ error same before.
           let asked : SameErrors (g .P·Measure .error (c .loop-start .pricer)) error = λ k r a b. inv .0 k r a b ∙ same k r a b in
-          let price-is = c .price-run-price .ensures .price ∙ price-same o (g .P·Measure .error (c .loop-start .pricer)) error asked (ledger-of h) (lawful-histogram h) start (n - start) (omega arith) (omega arith) in
+          let price-is = c .price-run-price .ensures .price ∙ price-same o (g .P·Measure .error (c .loop-start .pricer)) error asked (ledger-of h) (sound-histogram h) start (n - start) (omega arith) (omega arith) in
           c .place-run .ensures (price o error (ledger-of h)) price-is
           (subst (λ (x : ℕ). Searched o (price o error (ledger-of h)) (c .args .counted) (c .args .bins) n x (c .loop-start .tallies) (c .loop-start .links)) (sym next) (inv .1 error same before)),
     )

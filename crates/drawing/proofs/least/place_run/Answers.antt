@@ -29,7 +29,7 @@ returns-then-start-eq0 g c = λ cost is s.
     let o = g .T·Tally .ops in
     let e = one-less (c .args .end) in
     rw e at (placed-first o (g .T·Tally·met .laws) cost (c .args .counted) (c .args .bins) (c .args .end + 1) (c .args .start) (omega arith) (omega arith) (omega arith) (omega arith)
-    (c .args .tallies .now) (c .args .links .now) (c .args .price) (c .if-start-eq0 .taken) is s)
+    (c .args .tallies .now) (c .args .links .now) (c .args .amount) (c .if-start-eq0 .taken) is s)
 
 -- the cells of the run and those before it lie within the lists
 inside : (counted bins start end from to tallies links : ℕ) → start ≤ end → end < counted → 0 < start → 1 ≤ from → from ≤ to → to ≤ bins → counted * bins ≤ tallies → counted * bins ≤ links →
@@ -56,13 +56,13 @@ returns-then-start-end g c = λ cost is s.
     let o = g .T·Tally .ops in
     let n = c .bin-numbers-from in
     placed-turn o (g .T·Tally·met .laws) cost (c .args .counted) (c .args .bins) (c .args .end + 1) (c .args .start) (omega arith) (omega arith) (omega arith) (omega arith)
-    _ (c .args .price) (n .result .0) (n .result .1) (c .args .tallies .now) (c .enter .last .tallies) (c .args .links .now) (c .enter .last .links)
-    (omega arith) is (n .ensures .bounds .0) (n .ensures .bounds .1) (n .ensures .bounds .3) (n .ensures .needed) (inl (omega arith, λ p q. refl)) (subst (λ (x : ℕ). Turned o (λ _ _. false) (c .args .price) (c .args .start) (x * c .args .bins + n .result .0) ((c .args .start - 1) * c .args .bins + (n .result .0 - 1)) (n .result .1 - n .result .0) (c .args .tallies .now) (c .enter .last .tallies) (c .args .links .now) (c .enter .last .links)) (sym (one-less (c .args .end))) (c .enter .ensures)) s
+    _ (c .args .amount) (n .result .0) (n .result .1) (c .args .tallies .now) (c .enter .last .tallies) (c .args .links .now) (c .enter .last .links)
+    (omega arith) is (n .ensures .bounds .0) (n .ensures .bounds .1) (n .ensures .bounds .3) (n .ensures .needed) (inl (omega arith, λ p q. refl)) (subst (λ (x : ℕ). Turned o (λ _ _. false) (c .args .amount) (c .args .start) (x * c .args .bins + n .result .0) ((c .args .start - 1) * c .args .bins + (n .result .0 - 1)) (n .result .1 - n .result .0) (c .args .tallies .now) (c .enter .last .tallies) (c .args .links .now) (c .enter .last .links)) (sym (one-less (c .args .end))) (c .enter .ensures)) s
 
 pub returns-else-start-end : need.returns-else-start-end
 returns-else-start-end g c = λ cost is s.
     let o = g .T·Tally .ops in
     let n = c .bin-numbers-from in
     placed-turn o (g .T·Tally·met .laws) cost (c .args .counted) (c .args .bins) (c .args .end + 1) (c .args .start) (omega arith) (omega arith) (omega arith) (omega arith)
-    _ (c .args .price) (n .result .0) (n .result .1) (c .args .tallies .now) (c .relax .last .tallies) (c .args .links .now) (c .relax .last .links)
-    (omega arith) is (n .ensures .bounds .0) (n .ensures .bounds .1) (n .ensures .bounds .3) (n .ensures .needed) (inr (omega arith, λ p q. refl)) (subst (λ (x : ℕ). Turned o (o .not-above) (c .args .price) (c .args .start) (x * c .args .bins + n .result .0) ((c .args .start - 1) * c .args .bins + (n .result .0 - 1)) (n .result .1 - n .result .0) (c .args .tallies .now) (c .relax .last .tallies) (c .args .links .now) (c .relax .last .links)) (sym (one-less (c .args .end))) (c .relax .ensures)) s
+    _ (c .args .amount) (n .result .0) (n .result .1) (c .args .tallies .now) (c .relax .last .tallies) (c .args .links .now) (c .relax .last .links)
+    (omega arith) is (n .ensures .bounds .0) (n .ensures .bounds .1) (n .ensures .bounds .3) (n .ensures .needed) (inr (omega arith, λ p q. refl)) (subst (λ (x : ℕ). Turned o (o .not-above) (c .args .amount) (c .args .start) (x * c .args .bins + n .result .0) ((c .args .start - 1) * c .args .bins + (n .result .0 - 1)) (n .result .1 - n .result .0) (c .args .tallies .now) (c .relax .last .tallies) (c .args .links .now) (c .relax .last .links)) (sym (one-less (c .args .end))) (c .relax .ensures)) s

@@ -3,7 +3,7 @@ use mathlib.Core.Path.{_≡_, sym, ap, _∙_}
 use native.Mathlib.Omega.{arith}
 use Rattle.counting.specs.Ledger.{counted-levels}
 use Rattle.counting.specs.Meaning.{ledger-of}
-use Rattle.counting.proofs.Ledgers.{lawful-histogram}
+use Rattle.counting.proofs.Ledgers.{sound-histogram}
 use Rattle.drawing.proofs.Places.{rank, rank-none, rank-all}
 use Rattle.drawing.proofs.Asked.{listing-one, listing-none}
 use Rattle.drawing.proofs.runs.list_levels.Needs as need
@@ -28,5 +28,5 @@ returns c =
     let h = c .args .histogram .now in
     let g = ledger-of h in
     let all : c .loop-level .level ≡ g .levels = omega arith in
-    let number : c .loop-level .counted ≡ counted-levels g = c .loop-level .inv .0 ∙ ap (rank g) all ∙ rank-all g (lawful-histogram h) in
+    let number : c .loop-level .counted ≡ counted-levels g = c .loop-level .inv .0 ∙ ap (rank g) all ∙ rank-all g (sound-histogram h) in
     record { number = number; lists = (omega (arith, c .loop-level .inv .1, c .loop-level .inv .2, h .range), λ i lt. c .loop-level .inv .3 i (omega arith)) }

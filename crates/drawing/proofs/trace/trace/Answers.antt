@@ -4,7 +4,7 @@ use native.Mathlib.Omega.{arith}
 use lib.ListN.{getD}
 use Rattle.counting.specs.Meaning.{ledger-of}
 use Rattle.drawing.specs.Divisions.{representative}
-use Rattle.counting.proofs.Ledgers.{lawful-histogram}
+use Rattle.counting.proofs.Ledgers.{sound-histogram}
 use Rattle.drawing.proofs.Same.{representative-same}
 use Rattle.drawing.proofs.Placed.{row-below}
 use Rattle.drawing.proofs.Tracing.{tracing-start, tracing-cell, tracing-more, tracing-end}
@@ -38,7 +38,7 @@ loop-bin-again g c =
     let link = getD (c .args .links .now) ((n - 1) * bins + (left - 1)) 0 in
     let back : n - 1 + 1 - link ≡ n - link = omega (arith, cell .high) in
     let grey-is = c .price-run-representative .ensures .representative ∙ ap (λ (d : ℕ). representative o (g .P·Measure .error (c .loop-bin .pricer)) (ledger-of h) link d) back
-    ∙ representative-same o (g .P·Measure .error (c .loop-bin .pricer)) error (inv .0) (ledger-of h) (lawful-histogram h) link (n - link) (omega (arith, cell .high)) (omega (arith, cell .high, t .within)) in (
+    ∙ representative-same o (g .P·Measure .error (c .loop-bin .pricer)) error (inv .0) (ledger-of h) (sound-histogram h) link (n - link) (omega (arith, cell .high)) (omega (arith, cell .high, t .within)) in (
       (λ k r a b. c .price-run-representative .ensures .same k r a b ∙ inv .0 k r a b),
       tracing-more o error (ledger-of h) (c .args .counted) bins (omega arith) left n link _ _ (c .loop-bin .bounds) (c .loop-bin .representatives) _ (omega arith) (omega arith) t cell
           (c .pre .lists .1 (n - 1) (omega (arith, t .within, t .few))) grey-is,

@@ -3,7 +3,7 @@ use mathlib.Core.Path.{_≡_, sym, ap, ap₂, subst, _∙_}
 use mathlib.Core.List.{List}
 use native.Mathlib.Omega.{arith}
 use lib.ListN.{take}
-use Rattle.counting.specs.Lawful.{Lawful, of-pixels}
+use Rattle.counting.specs.Sound.{Sound, of-pixels}
 use Rattle.tablefile.specs.Rows.{levels-row}
 use Rattle.tablefile.specs.Faults.{first-of, level-fault}
 use Rattle.tablefile.specs.Parts.{pixels-upto}
@@ -40,7 +40,7 @@ unreachable-requires c κs =
     let levels = c .args .levels in
     let pixels = c .in-Continue-pixels .ensures tt in
     let lawful = made-lawful file levels (c .in-Continue-counted .counted) (pixels .0) (c .pre .0, c .pre .1) in
-    let P : List ℕ → Type 0 = λ ps. Lawful (of-pixels ps) in
+    let P : List ℕ → Type 0 = λ ps. Sound (of-pixels ps) in
     c .in-None .ensures tt (subst P (sym (front levels _ _ (pixels .1 .0))) lawful)
 
 pub returns : need.returns

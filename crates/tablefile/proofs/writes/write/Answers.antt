@@ -7,7 +7,7 @@ use Rattle.tables.specs.Meaning.{table-of}
 use Rattle.tablefile.specs.Bytes.{head-bytes, bytes-of}
 use Rattle.tablefile.specs.Numbers.{word}
 use Rattle.tablefile.specs.Parts.{PutAt}
-use Rattle.counting.proofs.Ledgers.{lawful-histogram}
+use Rattle.counting.proofs.Ledgers.{sound-histogram}
 use Rattle.tablefile.proofs.Writing.{counted-number, entries-long, bytes-long, whole-put, put-over, write-enough, write-short}
 use Rattle.tablefile.proofs.writes.write.Needs as need
 
@@ -16,27 +16,27 @@ returns-then-out-needed c =
     let h = c .args .histogram .now in
     let g = ledger-of h in
     let t = table-of (c .args .table .now) in
-    let many = counted-number g (lawful-histogram h .width) in
+    let many = counted-number g (sound-histogram h .width) in
     let all = bytes-long g t in
     (write-short g t _ _ (omega arith) (omega arith) (omega arith), refl)
 
 pub put-level-entries-place-requires : need.put-level-entries-place-requires
 put-level-entries-place-requires c κs =
     let h = c .args .histogram .now in
-    let many = counted-number (ledger-of h) (lawful-histogram h .width) in
+    let many = counted-number (ledger-of h) (sound-histogram h .width) in
     omega arith
 
 pub put16-place-requires-2 : need.put16-place-requires-2
 put16-place-requires-2 c κs =
     let h = c .args .histogram .now in
-    let many = counted-number (ledger-of h) (lawful-histogram h .width) in
+    let many = counted-number (ledger-of h) (sound-histogram h .width) in
     let levels = entries-long (ledger-of h) in
     omega arith
 
 pub put-bin-entries-requires : need.put-bin-entries-requires
 put-bin-entries-requires c κs =
     let h = c .args .histogram .now in
-    let many = counted-number (ledger-of h) (lawful-histogram h .width) in
+    let many = counted-number (ledger-of h) (sound-histogram h .width) in
     let levels = entries-long (ledger-of h) in
     omega arith
 
@@ -46,7 +46,7 @@ returns c =
     let g = ledger-of h in
     let t = table-of (c .args .table .now) in
     let out = c .args .out .now in
-    let many = counted-number g (lawful-histogram h .width) in
+    let many = counted-number g (sound-histogram h .width) in
     let all = bytes-long g t in
     let room : length (bytes-of g t) ≤ length out = omega arith in
     let head = subst (λ (n : ℕ). PutAt out 0 (head-bytes n) (c .put-head-place .result) (c .put-head-place .last .out)) (c .levels-levels .ensures) (c .put-head-place .ensures) in

@@ -1,0 +1,4 @@
+pub mod Words
+pub mod Spans
+pub mod Texts
+pub mod Outcomes
