@@ -40,7 +40,7 @@ fn outcome(
     drawn
 }
 
-// Opens `levels` levels, counts the row and draws at most `most` bins.
+// The report of opening `levels` levels, counting the row and drawing at most `most` bins.
 fn answer(heap: Global, levels: u16, most: u16, row: &[u16]) -> Result<String, AllocError>
     ensures { λ r. ⌜ made r (λ text. Answered (opened levels ∷ counted (now (row .entry)) ∷ []) most (string-bytes text)) ⌝ }
 {
@@ -65,7 +65,7 @@ fn answer(heap: Global, levels: u16, most: u16, row: &[u16]) -> Result<String, A
     }
 }
 
-// What the branch program prints for its input.
+// What the branch program prints for its input: that it is short, or the first refusal, or the bins of the table and the figures.
 pub fn report(heap: Global, input: &[u8]) -> Result<String, AllocError>
     ensures { λ r. ⌜ made r (λ text. Reported (now (input .entry)) (string-bytes text)) ⌝ }
 {

@@ -8,7 +8,7 @@ use crate::fault::NumberFault;
 // The first byte of every file.
 pub const EDITION: u8 = 5;
 
-pub fn number8(file: &[u8], place: usize) -> Result<u8, NumberFault>
+pub(crate) fn number8(file: &[u8], place: usize) -> Result<u8, NumberFault>
     requires { ⌜ place ≤ length (now file) ⌝ }
     ensures { λ r. ⌜ GotNumber (now (file .entry)) place 1 (getD (now (file .entry)) place 0) r ⌝ }
 {
@@ -18,7 +18,7 @@ pub fn number8(file: &[u8], place: usize) -> Result<u8, NumberFault>
     Ok(file[place])
 }
 
-pub fn number16(file: &[u8], place: usize) -> Result<u16, NumberFault>
+pub(crate) fn number16(file: &[u8], place: usize) -> Result<u16, NumberFault>
     requires { ⌜ place ≤ length (now file) ⌝ }
     ensures { λ r. ⌜ GotNumber (now (file .entry)) place 2 (word-at (now (file .entry)) place) r ⌝ }
 {
@@ -28,7 +28,7 @@ pub fn number16(file: &[u8], place: usize) -> Result<u16, NumberFault>
     Ok(u16::from_be_bytes([file[place], file[place + 1]]))
 }
 
-pub fn number32(file: &[u8], place: usize) -> Result<u32, NumberFault>
+pub(crate) fn number32(file: &[u8], place: usize) -> Result<u32, NumberFault>
     requires { ⌜ place ≤ length (now file) ⌝ }
     ensures { λ r. ⌜ GotNumber (now (file .entry)) place 4 (long-at (now (file .entry)) place) r ⌝ }
 {
@@ -44,7 +44,7 @@ pub fn number32(file: &[u8], place: usize) -> Result<u32, NumberFault>
 }
 
 // Writes the number at a place; gives the place after it.
-pub fn put16(out: &mut [u8], place: usize, number: u16) -> usize
+pub(crate) fn put16(out: &mut [u8], place: usize, number: u16) -> usize
     requires { ⌜ place + 2 ≤ length (now out) ⌝ }
     ensures { λ r. ⌜ PutAt (now (out .entry)) place (word number) r (now (out .exit)) ⌝ }
 {
@@ -52,7 +52,7 @@ pub fn put16(out: &mut [u8], place: usize, number: u16) -> usize
     place + 2
 }
 
-pub fn put32(out: &mut [u8], place: usize, number: u32) -> usize
+pub(crate) fn put32(out: &mut [u8], place: usize, number: u32) -> usize
     requires { ⌜ place + 4 ≤ length (now out) ⌝ }
     ensures { λ r. ⌜ PutAt (now (out .entry)) place (long number) r (now (out .exit)) ⌝ }
 {

@@ -3,6 +3,8 @@
 mod counting_cases;
 #[cfg(test)]
 mod drawing_cases;
+#[cfg(test)]
+mod file_cases;
 
 ghost use Prim.Native.Nat.{_<_};
 ghost use Rattle.std.specs.Vec.{made};

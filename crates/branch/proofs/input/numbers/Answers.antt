@@ -1,5 +1,5 @@
 -- Each turn appends the next number.
-use mathlib.Core.Path.{_∙_, sym, ap}
+use mathlib.Core.Path.{_∙_}
 use native.Mathlib.Omega.{arith}
 use Rattle.std.proofs.shelf.Lists.{take-more, take-all}
 use Rattle.branch.specs.Report.{numbers-of}

@@ -1,5 +1,4 @@
 -- Each turn appends the line of one bin.
-use mathlib.Core.Path.{_≡_}
 use Rattle.counting.specs.Meaning.{ledger-of}
 use Rattle.tables.specs.Meaning.{table-of}
 use Rattle.branch.specs.Report.{bin-line}
