@@ -79,6 +79,7 @@ bins-fault file levels place =
 unfoldable pub rest-fault : List ℕ → ℕ → Option Row
 rest-fault file end = cond (ltb end (length file)) (Some (15, end ∷ [])) None
 
+-- The first fault of a file: its head, its levels, its bins, and then that it ends.
 unfoldable pub first-fault : List ℕ → Option Row
 first-fault file =
     first (head-fault file)

@@ -5,12 +5,14 @@ ghost use Rattle.counting.specs.Outputs.{row-of};
 ghost use Rattle.tablefile.specs.Rows.{number-row, head-row, levels-row, bins-row, file-row};
 use counting::Refusal;
 
+// Of a number.
 #[derive(Clone, Copy)]
 pub enum NumberFault {
     // the file, of this length, ends before the number does
     CutShort { length: usize },
 }
 
+// Of section 0, the edition and the number of levels. `place` is the first byte of what breaks a rule, here and below.
 #[derive(Clone, Copy)]
 pub enum HeadFault {
     Number(NumberFault),
@@ -18,18 +20,21 @@ pub enum HeadFault {
     Rule { place: usize },
 }
 
+// Of section 1, the levels.
 #[derive(Clone, Copy)]
 pub enum LevelsFault {
     Number(NumberFault),
     Rule { place: usize },
 }
 
+// Of section 2, the bins.
 #[derive(Clone, Copy)]
 pub enum BinsFault {
     Number(NumberFault),
     Rule { place: usize },
 }
 
+// Of the whole file: a section's, or bytes after the last.
 #[derive(Clone, Copy)]
 pub enum FileFault {
     Head(HeadFault),
@@ -97,7 +102,7 @@ impl NumberFault {
     }
 }
 
-// Section 0 is the edition and the number of levels, 1 the levels and 2 the bins.
+// At the end a file's fault is told as a refusal.
 pub impl From<FileFault> for Refusal as RefusalFromFile {
     ghost converts = { λ x y. row-of y ≡ file-row x };
 

@@ -8,6 +8,7 @@ use crate::fault::NumberFault;
 // The first byte of every file.
 pub const EDITION: u8 = 5;
 
+// The number at a place that the file reaches to.
 pub(crate) fn number8(file: &[u8], place: usize) -> Result<u8, NumberFault>
     requires { ⌜ place ≤ length (now file) ⌝ }
     ensures { λ r. ⌜ GotNumber (now (file .entry)) place 1 (getD (now (file .entry)) place 0) r ⌝ }

@@ -27,6 +27,7 @@ fn put_head(out: &mut [u8], levels: u16) -> usize
     put16(out, 1, levels)
 }
 
+// An entry of section 1.
 fn put_level(out: &mut [u8], place: usize, level: u16, pixels: u32) -> usize
     requires { ⌜ place + 6 ≤ length (now out) ⌝ }
     ensures { λ r. ⌜ PutAt (now (out .entry)) place (word level ++ long pixels) r (now (out .exit)) ⌝ }
@@ -50,6 +51,7 @@ fn put_level_entries(out: &mut [u8], place: usize, histogram: &Histogram) -> usi
     at
 }
 
+// An entry of section 2.
 fn put_bin(out: &mut [u8], place: usize, bound: u16, representative: u16) -> usize
     requires { ⌜ place + 4 ≤ length (now out) ⌝ }
     ensures { λ r. ⌜ PutAt (now (out .entry)) place (word bound ++ word representative) r (now (out .exit)) ⌝ }
