@@ -1,4 +1,6 @@
 // What the branch program prints: the level table of the pixels that its input lists, or why there is none.
+#![tactic(auto)]
+
 mod input;
 mod lines;
 mod reports;

@@ -1,5 +1,7 @@
 // What C can call. A scan is one list of pixels whose rows of `width` pixels stand one after the other; no call requires
 // anything of its arguments.
+#![tactic(auto)]
+
 mod drawings;
 mod drawn;
 mod files;

@@ -1,4 +1,6 @@
 // Prints the branch report of what standard input has.
+#![tactic(auto)]
+
 use branch::report;
 use std::io;
 use std::io::{BufReader, Read};

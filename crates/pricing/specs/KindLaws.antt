@@ -1,11 +1,11 @@
 -- The laws of the kinds of tally.
 use Rattle.std.specs.Prelude.{◌≡◌, ℕ, ◌*◌, ◌^◌, ◌<◌}
-use Rattle.std.proofs.Common.{ap₂, ◌∙◌, inl, inr, arith, mul-le-mul_left}
+use Rattle.std.proofs.Common.{ap₂, ◌∙◌, inl, inr, arith, rules, mul-le-mul_left}
 use mathlib.Core.HLevel.{is_prop→PathP}
 use Rattle.std.proofs.Math.Bridge.{le_prop}
 use Rattle.std.proofs.lemmas.Bool.{leb-true, le-leb, cases_lt}
 use Rattle.pricing.specs.Tallies.{Laws}
-use Rattle.pricing.specs.Kinds.{held, total_ops}
+use Rattle.pricing.specs.Kinds.{held, total_ops, worst_ops}
 use Rattle.pricing.specs.declared.tallies.total.Total.{Total}
 
 -- two totals are equal when their sums are: the bound has one proof
@@ -34,3 +34,6 @@ total_laws = record {
   additive = (λ m n e _ _. same_total _ _ (omega arith));
   rising = (λ n d e _ h _. le-leb _ _ (omega (arith, mul-le-mul_left n h)));
 }
+
+pub worst_laws : Laws worst_ops
+worst_laws = search rules

@@ -1,4 +1,6 @@
 // What it costs to show pixels in other greys: tallies, measures with their layers, and pricers.
+#![tactic(auto)]
+
 mod layers;
 mod measure;
 mod measures;

@@ -13,6 +13,6 @@ pub trait Pricer: Measure {
     // The representative and the price of the levels from `a` to `b`, both included, against the pricer's
     // own error. Asking leaves its meaning.
     fn price(&mut self, histogram: &Histogram, a: u16, b: u16) -> Option<(u16, Self::Kind)>
-        ensures answer { Priced Self.Kind.Tally.ops (error self.old) (ledger_of histogram.now) a b result }
-        ensures same { SameErrors (error self.new) (error self.old) };
+        ensures answer { Priced Self.Kind.Tally.ops (Self.error self.old) (ledger_of histogram.now) a b result }
+        ensures same { SameErrors (Self.error self.new) (Self.error self.old) };
 }

@@ -1,4 +1,6 @@
 // The refusals of every call, one table for all crates.
+#![tactic(auto)]
+
 mod refusal;
 
 pub use refusal::Refusal;

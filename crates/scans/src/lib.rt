@@ -1,4 +1,6 @@
 // Grey scans in memory, and how one is read from a PGM file.
+#![tactic(auto)]
+
 mod pgm;
 mod raster;
 mod scan;

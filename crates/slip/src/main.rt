@@ -1,5 +1,7 @@
 // One slip from scan to stored rows, told step by step: `slip [GREYS] [TABLE PICTURE] < SCAN`. With two file names the
 // table file and the reduced picture are written too.
+#![tactic(auto)]
+
 mod count;
 mod store;
 mod tell;

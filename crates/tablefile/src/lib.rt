@@ -1,4 +1,6 @@
 // Table files: a histogram and a level table as bytes, and back.
+#![tactic(auto)]
+
 mod fault;
 mod numbers;
 mod reads;

@@ -1,4 +1,6 @@
 // Runs the branch report on cases with known answers, and says how many agree. The worked cases of the library are its tests.
+#![tactic(auto)]
+
 #[cfg(test)]
 mod counting_cases;
 #[cfg(test)]

@@ -1,8 +1,6 @@
 // Errors up to an allowance are passed over.
 ghost use Rattle.std.specs.Prelude.{◌≡◌};
-ghost use mir.Syntax.{given};
 ghost use Rattle.pricing.specs.Measures.{allowed};
-ghost use Rattle.pricing.specs.contracts.layers.errors.AllowanceMeasure.TheImpl.{ghosts as allowance-measure};
 
 use crate::measure::Measure;
 
@@ -14,9 +12,8 @@ pub struct Allowance<M> {
 }
 
 impl<M: Measure> Allowance<M> {
-    // `given 0` stands for the bound on `M`.
     pub fn new(measure: M, allowance: u32) -> Allowance<M>
-        ensures { (allowance-measure M.row M.Measure (given 0)).error result ≡ allowed allowance (error measure) }
+        ensures { ⟦<Allowance<M> as Measure>⟧.error result ≡ allowed allowance (M.error measure) }
     {
         Allowance { measure, allowance }
     }

@@ -1,8 +1,6 @@
 // Errors above a ceiling count as the ceiling.
 ghost use Rattle.std.specs.Prelude.{◌≡◌};
-ghost use mir.Syntax.{given};
 ghost use Rattle.pricing.specs.Measures.{capped};
-ghost use Rattle.pricing.specs.contracts.layers.errors.CeilingMeasure.TheImpl.{ghosts as ceiling-measure};
 
 use crate::measure::Measure;
 
@@ -14,9 +12,8 @@ pub struct Ceiling<M> {
 }
 
 impl<M: Measure> Ceiling<M> {
-    // `given 0` stands for the bound on `M`.
     pub fn new(measure: M, ceiling: u32) -> Ceiling<M>
-        ensures { (ceiling-measure M.row M.Measure (given 0)).error result ≡ capped ceiling (error measure) }
+        ensures { ⟦<Ceiling<M> as Measure>⟧.error result ≡ capped ceiling (M.error measure) }
     {
         Ceiling { measure, ceiling }
     }

@@ -16,8 +16,8 @@ impl<M: Measure> Measure for Weight<M> {
     ghost fair = { λ m. weighed_fair _ _ (M.Measure.fair m.measure) };
 
     fn error(&mut self, k: u16, r: u16) -> u32
-        ensures value { result ≡ weighed (weights_of self.old.weights) (error self.old.measure) (min k 1023) (min r 1023) }
-        ensures same { SameErrors (weighed (weights_of self.new.weights) (error self.new.measure)) (weighed (weights_of self.old.weights) (error self.old.measure)) }
+        ensures value { result ≡ weighed (weights_of self.old.weights) (M.error self.old.measure) (min k 1023) (min r 1023) }
+        ensures same { SameErrors (weighed (weights_of self.new.weights) (M.error self.new.measure)) (weighed (weights_of self.old.weights) (M.error self.old.measure)) }
         ensures kept { self.new.weights ≡ self.old.weights }
     {
         let weight = u32::from(self.weights.weight(k.min(1023)));
@@ -31,8 +31,8 @@ impl<M: Measure> Measure for Allowance<M> {
     ghost fair = { λ m. allowed_fair m.allowance _ (M.Measure.fair m.measure) };
 
     fn error(&mut self, k: u16, r: u16) -> u32
-        ensures value { result ≡ allowed self.old.allowance (error self.old.measure) (min k 1023) (min r 1023) }
-        ensures same { SameErrors (allowed self.new.allowance (error self.new.measure)) (allowed self.old.allowance (error self.old.measure)) }
+        ensures value { result ≡ allowed self.old.allowance (M.error self.old.measure) (min k 1023) (min r 1023) }
+        ensures same { SameErrors (allowed self.new.allowance (M.error self.new.measure)) (allowed self.old.allowance (M.error self.old.measure)) }
         ensures kept { self.new.allowance ≡ self.old.allowance }
     {
         self.measure.error(k, r).saturating_sub(self.allowance)
@@ -45,8 +45,8 @@ impl<M: Measure> Measure for Ceiling<M> {
     ghost fair = { λ m. capped_fair m.ceiling _ (M.Measure.fair m.measure) };
 
     fn error(&mut self, k: u16, r: u16) -> u32
-        ensures value { result ≡ capped self.old.ceiling (error self.old.measure) (min k 1023) (min r 1023) }
-        ensures same { SameErrors (capped self.new.ceiling (error self.new.measure)) (capped self.old.ceiling (error self.old.measure)) }
+        ensures value { result ≡ capped self.old.ceiling (M.error self.old.measure) (min k 1023) (min r 1023) }
+        ensures same { SameErrors (capped self.new.ceiling (M.error self.new.measure)) (capped self.old.ceiling (M.error self.old.measure)) }
         ensures kept { self.new.ceiling ≡ self.old.ceiling }
     {
         self.measure.error(k, r).min(self.ceiling)

@@ -1,9 +1,7 @@
 // Levels whose errors weigh more, or less, than others.
 ghost use Rattle.std.specs.Prelude.{◌≡◌};
-ghost use mir.Syntax.{given};
 ghost use Rattle.pricing.specs.Measures.{weighed};
 ghost use Rattle.pricing.specs.Weights.{weights_of};
-ghost use Rattle.pricing.specs.contracts.layers.errors.WeightMeasure.TheImpl.{ghosts as weight-measure};
 
 use super::weight_list::WeightList;
 use crate::measure::Measure;
@@ -16,9 +14,8 @@ pub struct Weight<M> {
 }
 
 impl<M: Measure> Weight<M> {
-    // `given 0` stands for the bound on `M`.
     pub fn new(measure: M, weights: WeightList) -> Weight<M>
-        ensures { (weight-measure M.row M.Measure (given 0)).error result ≡ weighed (weights_of weights) (error measure) }
+        ensures { ⟦<Weight<M> as Measure>⟧.error result ≡ weighed (weights_of weights) (M.error measure) }
     {
         Weight { measure, weights }
     }

@@ -1,8 +1,8 @@
 // The measures that hold nothing.
 ghost use Rattle.std.specs.Prelude.{◌≡◌};
 ghost use Rattle.pricing.specs.Measures.{squared, distance};
-ghost use Rattle.pricing.specs.contracts.measures.errors.SquaredMeasure.TheImpl.{ghosts as squared-measure};
-ghost use Rattle.pricing.specs.contracts.measures.errors.DistanceMeasure.TheImpl.{ghosts as distance-measure};
+
+use crate::measure::Measure;
 
 // The square of the difference of two levels.
 #[derive(Clone, Copy)]
@@ -10,7 +10,7 @@ pub struct Squared;
 
 impl Squared {
     pub fn new() -> Squared
-        ensures { squared-measure.error result ≡ squared }
+        ensures { ⟦<Squared as Measure>⟧.error result ≡ squared }
     {
         Squared
     }
@@ -22,7 +22,7 @@ pub struct Distance;
 
 impl Distance {
     pub fn new() -> Distance
-        ensures { distance-measure.error result ≡ distance }
+        ensures { ⟦<Distance as Measure>⟧.error result ≡ distance }
     {
         Distance
     }

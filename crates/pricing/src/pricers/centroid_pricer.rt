@@ -1,8 +1,8 @@
 // The pricer that takes the mean.
 ghost use Rattle.std.specs.Prelude.{◌≡◌};
 ghost use Rattle.pricing.specs.Measures.{squared};
-ghost use Rattle.pricing.specs.contracts.pricers.prices.CentroidPricerMeasure.TheImpl.{ghosts as centroid-measure};
 
+use crate::measure::Measure;
 use crate::measures::Squared;
 
 // Prices squared errors by their sum, and adds up each range once.
@@ -13,7 +13,7 @@ pub struct CentroidPricer {
 
 impl CentroidPricer {
     pub fn new() -> CentroidPricer
-        ensures { centroid-measure.error result ≡ squared }
+        ensures { ⟦<CentroidPricer as Measure>⟧.error result ≡ squared }
     {
         CentroidPricer {
             measure: Squared::new(),

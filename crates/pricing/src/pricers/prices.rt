@@ -5,7 +5,6 @@ ghost use Rattle.pricing.specs.Errors.{SameErrors};
 ghost use Rattle.pricing.specs.Kinds.{total_ops};
 ghost use Rattle.pricing.specs.Measures.{squared};
 ghost use Rattle.pricing.specs.Prices.{Priced};
-ghost use Rattle.std.proofs.Common.{rules};
 ghost use Rattle.pricing.specs.ErrorLaws.{squared_fair};
 
 use super::centroid::centroid;
@@ -21,11 +20,11 @@ use counting::Histogram;
 impl<M: Measure, T: Tally> Measure for TrialPricer<M, T> {
     ghost error = { λ p. M.Measure.error p.measure };
 
-    ghost fair = { Prim.search rules };
+    ghost fair = { λ p. M.Measure.fair p.measure };
 
     fn error(&mut self, k: u16, r: u16) -> u32
-        ensures value { result ≡ error self.old.measure (min k 1023) (min r 1023) }
-        ensures same { SameErrors (error self.new.measure) (error self.old.measure) }
+        ensures value { result ≡ M.error self.old.measure (min k 1023) (min r 1023) }
+        ensures same { SameErrors (M.error self.new.measure) (M.error self.old.measure) }
     {
         self.measure.error(k, r)
     }
@@ -35,8 +34,8 @@ impl<M: Measure, T: Tally> Pricer for TrialPricer<M, T> {
     type Kind = T;
 
     fn price(&mut self, histogram: &Histogram, a: u16, b: u16) -> Option<(u16, T)>
-        ensures answer { Priced ops (error self.old.measure) (ledger_of histogram.now) a b result }
-        ensures same { SameErrors (error self.new.measure) (error self.old.measure) }
+        ensures answer { Priced T.ops (M.error self.old.measure) (ledger_of histogram.now) a b result }
+        ensures same { SameErrors (M.error self.new.measure) (M.error self.old.measure) }
     {
         trial(&mut self.measure, histogram, a, b)
     }

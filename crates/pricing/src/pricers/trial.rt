@@ -19,8 +19,8 @@ fn range_tally<M: Measure, T: Tally>(
     r: u16,
 ) -> T
     requires { (a ≤ b) × (b < 1024) × (r < 1024) }
-    ensures tally { result ≡ range_tally ops (error measure.old) (ledger_of histogram.now) a b r }
-    ensures same { SameErrors (error measure.new) (error measure.old) }
+    ensures tally { result ≡ range_tally T.ops (M.error measure.old) (ledger_of histogram.now) a b r }
+    ensures same { SameErrors (M.error measure.new) (M.error measure.old) }
 {
     let mut tally = T::neutral();
     for k in a..b + 1 {
@@ -42,9 +42,9 @@ fn lowest<M: Measure, T: Tally>(
     high: u16,
 ) -> (u16, T)
     requires { (a ≤ b) × (b < 1024) × (low ≤ high) × (high < 1024) }
-    ensures lowest { LowestAt ops (range_tally ops (error measure.old) (ledger_of histogram.now) a b) low high result.0 }
-    ensures tally { result.1 ≡ range_tally ops (error measure.old) (ledger_of histogram.now) a b result.0 }
-    ensures same { SameErrors (error measure.new) (error measure.old) }
+    ensures lowest { LowestAt T.ops (range_tally T.ops (M.error measure.old) (ledger_of histogram.now) a b) low high result.0 }
+    ensures tally { result.1 ≡ range_tally T.ops (M.error measure.old) (ledger_of histogram.now) a b result.0 }
+    ensures same { SameErrors (M.error measure.new) (M.error measure.old) }
 {
     let mut best = low;
     let mut least = range_tally::<M, T>(measure, histogram, a, b, low);
@@ -67,8 +67,8 @@ pub(super) fn trial<M: Measure, T: Tally>(
     a: u16,
     b: u16,
 ) -> Option<(u16, T)>
-    ensures answer { Priced ops (error measure.old) (ledger_of histogram.now) a b result }
-    ensures same { SameErrors (error measure.new) (error measure.old) }
+    ensures answer { Priced T.ops (M.error measure.old) (ledger_of histogram.now) a b result }
+    ensures same { SameErrors (M.error measure.new) (M.error measure.old) }
 {
     if b >= histogram.levels() {
         return None;

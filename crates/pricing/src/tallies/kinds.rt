@@ -1,8 +1,7 @@
 // What each kind of tally computes.
 ghost use Rattle.std.specs.Prelude.{◌≡◌};
 ghost use Rattle.pricing.specs.Kinds.{total_ops, worst_ops};
-ghost use Rattle.pricing.specs.KindLaws.{total_laws};
-ghost use Rattle.std.proofs.Common.{rules};
+ghost use Rattle.pricing.specs.KindLaws.{total_laws, worst_laws};
 
 use super::total::Total;
 use super::worst::Worst;
@@ -45,7 +44,7 @@ impl Tally for Total {
 impl Tally for Worst {
     ghost ops = { worst_ops };
 
-    ghost laws = { Prim.search rules };
+    ghost laws = { worst_laws };
 
     fn neutral() -> Worst
         ensures { result ≡ worst_ops.neutral }

@@ -10,7 +10,7 @@ loop-i-preserved c =
     let count = length_numbers c.args.input.now in
     let more = take_more (numbers_of c.args.input.now) c.loop-i.i 0 (omega arith) in
     let number = number_at c.args.input.now c.loop-i.i (omega arith) in
-    let items = c.in-ok-push.ensures.items in
+    let items = c.in_ok-push.ensures.items in
     cc
 
 pub returns : goal.returns

@@ -7,8 +7,8 @@ use Rattle.branch.proofs.lines.bin_lines.Goals as goal
 
 pub loop-bin-preserved : goal.loop-bin-preserved
 loop-bin-preserved c =
-    let line = c.in-ok-line.ensures in
-    let bytes = c.in-ok-push-str.ensures.bytes in
-    let value = c.as-str.ensures.value in
+    let line = c.in_ok-line.ensures in
+    let bytes = c.in_ok-push_str.ensures.bytes in
+    let value = c.as_str.ensures.value in
     let more = line_more (bin_line (ledger_of c.args.histogram.now) (table_of c.args.table.now)) c.loop-bin.bin in
     cc

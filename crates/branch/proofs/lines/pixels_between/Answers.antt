@@ -5,8 +5,8 @@ use Rattle.counting.proofs.Ledgers.{sound_histogram}
 use Rattle.branch.proofs.Spans.{before_more, before_le, same_before}
 use Rattle.branch.proofs.lines.pixels_between.Goals as goal
 
-pub overflow-add-pixels : goal.overflow-add-pixels
-overflow-add-pixels c =
+pub overflow_add-pixels : goal.overflow_add-pixels
+overflow_add-pixels c =
     let g = ledger_of c.args.histogram.now in
     omega (arith, before_more g c.args.first c.loop-level.level (omega arith), before_le g c.args.first (c.loop-level.level + 1), (sound_histogram c.args.histogram.now).fits)
 

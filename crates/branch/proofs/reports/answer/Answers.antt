@@ -4,17 +4,17 @@ use Rattle.std.proofs.lemmas.Result.{IfOk-weaker, IfOk-from_err}
 use Rattle.branch.proofs.Outcomes.{refused_answered, drawn_answered}
 use Rattle.branch.proofs.reports.answer.Goals as goal
 
-pub returns-in-err-links : goal.returns-in-err-links
-returns-in-err-links c = IfOk-from_err c.from-residual-in-err-links.result _ c.from-residual-in-err-links.ensures.0
+pub returns-in_err-links : goal.returns-in_err-links
+returns-in_err-links c = IfOk-from_err c.from_residual-in_err-links.result _ c.from_residual-in_err-links.ensures.0
 
 pub returns-in-Ok : goal.returns-in-Ok
 returns-in-Ok c =
-    IfOk-weaker c.drawn-lines.result _ _
-    (λ s lines. drawn_answered c.args.levels c.args.most c.args.row c.reduce-drawn.ensures (c.as-mut-slice.ensures.len ∙ c.in-ok-tallies.ensures.len) (c.as-mut-slice-2.ensures.len ∙ c.in-ok-links.ensures.len) c.in-Ok.receipt (string_bytes s) (sym c.in-Ok.ensures) lines)
-    c.drawn-lines.ensures
+    IfOk-weaker c.drawn_lines.result _ _
+    (λ s lines. drawn_answered c.args.levels c.args.most c.args.row c.reduce-drawn.ensures (c.as_mut_slice.ensures.len ∙ c.in_ok-tallies.ensures.len) (c.as_mut_slice-2.ensures.len ∙ c.in_ok-links.ensures.len) c.in-Ok.receipt (string_bytes s) (sym c.in-Ok.ensures) lines)
+    c.drawn_lines.ensures
 
 pub returns : goal.returns
 returns c =
     IfOk-weaker c.refused_line.result _ _
-    (λ s line. refused_answered c.args.levels c.args.most c.args.row c.reduce-drawn.ensures (c.as-mut-slice.ensures.len ∙ c.in-ok-tallies.ensures.len) (c.as-mut-slice-2.ensures.len ∙ c.in-ok-links.ensures.len) c.in-Err.refusal (string_bytes s) (sym c.in-Err.ensures) line)
+    (λ s line. refused_answered c.args.levels c.args.most c.args.row c.reduce-drawn.ensures (c.as_mut_slice.ensures.len ∙ c.in_ok-tallies.ensures.len) (c.as_mut_slice-2.ensures.len ∙ c.in_ok-links.ensures.len) c.in-Err.refusal (string_bytes s) (sym c.in-Err.ensures) line)
     c.refused_line.ensures

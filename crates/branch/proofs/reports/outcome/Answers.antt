@@ -11,7 +11,7 @@ returns-in-Refused c =
 
 pub loop-answer-preserved : goal.loop-answer-preserved
 loop-answer-preserved c =
-    sym (outcome_goes_on c.args.drawn c.args.answers.now c.loop-answer.answer-index c.loop-answer-test.true c.in-default.not-Refused) ∙ c.loop-answer.invariant
+    sym (outcome_goes_on c.args.drawn c.args.answers.now c.loop-answer.answer-index c.loop-answer-test.true c.in_default.not-Refused) ∙ c.loop-answer.invariant
 
 pub returns : goal.returns
 returns c =

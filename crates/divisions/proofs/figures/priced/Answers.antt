@@ -4,8 +4,8 @@ use Rattle.divisions.specs.Figures.{priced_figure}
 use Rattle.divisions.proofs.ClosedForms.{priced_counts}
 use Rattle.divisions.proofs.figures.priced.Goals as goal
 
-pub overflow-sub-result : goal.overflow-sub-result
-overflow-sub-result c =
+pub overflow_sub-result : goal.overflow_sub-result
+overflow_sub-result c =
     let l : c.from-b.result ≤ c.from-c.result = omega arith in
     omega (arith, mul-le c.from-b.result c.from-b.result c.from-c.result c.from-c.result l l)
 

@@ -10,23 +10,23 @@ use Rattle.drawing.proofs.Placed.{row_below}
 use Rattle.drawing.proofs.Promised.{filled_same, table_for_same, last_tally, drew}
 use Rattle.drawing.proofs.drawings.draw_up.Goals as goal
 
-pub overflow-sub-tally : goal.overflow-sub-tally
-overflow-sub-tally g c = let h = row_below 0 c.list-levels-counted.result c.from-bins.result 0 (omega (arith, c.list-levels-counted.ensures.number)) (omega (arith, c.bins.ensures, c.list-levels-counted.ensures.number)) in omega arith
+pub overflow_sub-tally : goal.overflow_sub-tally
+overflow_sub-tally g c = let h = row_below 0 c.list_levels-counted.result c.from-bins.result 0 (omega (arith, c.list_levels-counted.ensures.number)) (omega (arith, c.bins.ensures, c.list_levels-counted.ensures.number)) in omega arith
 
 pub bounds-tallies-counted : goal.bounds-tallies-counted
 bounds-tallies-counted g c =
-    let h = row_below 0 c.list-levels-counted.result c.from-bins.result 0 (omega (arith, c.list-levels-counted.ensures.number)) (omega (arith, c.bins.ensures, c.list-levels-counted.ensures.number)) in
+    let h = row_below 0 c.list_levels-counted.result c.from-bins.result 0 (omega (arith, c.list_levels-counted.ensures.number)) (omega (arith, c.bins.ensures, c.list_levels-counted.ensures.number)) in
     omega (arith, c.fill.ensures.after.room)
 
-pub table-of-links-requires : goal.table-of-links-requires
-table-of-links-requires g c =
+pub table_of_links-requires : goal.table_of_links-requires
+table_of_links-requires g c =
     let h = c.args.histogram.now in
-    let number = c.list-levels-counted.ensures.number in
+    let number = c.list_levels-counted.ensures.number in
     record {
       shape = (omega (arith, c.bins.ensures, number), omega (arith, c.bins.ensures), omega (arith, c.bins.ensures), number);
-      lists = c.list-levels-counted.ensures.lists;
+      lists = c.list_levels-counted.ensures.lists;
       searched = filled_same g.Kind.Tally.ops g.met.Kind.Tally.laws (g.P.Measure.error c.args.pricer.now) (g.P.Measure.error c.fill.new.pricer) (λ k r a b. sym (c.fill.ensures.same k r a b))
-          (ledger_of h) (sound_histogram h) c.list-levels-counted.result c.from-bins.result c.fill.new.tallies c.fill.new.links number c.fill.ensures.after;
+          (ledger_of h) (sound_histogram h) c.list_levels-counted.result c.from-bins.result c.fill.new.tallies c.fill.new.links number c.fill.ensures.after;
     }
 
 pub returns : goal.returns
@@ -37,19 +37,19 @@ returns g c =
     let h = c.args.histogram.now in
     let led = ledger_of h in
     let S = sound_histogram h in
-    let counted = c.list-levels-counted.result in
+    let counted = c.list_levels-counted.result in
     let bins = c.from-bins.result in
-    let number = c.list-levels-counted.ensures.number in
+    let number = c.list_levels-counted.ensures.number in
     let bins_are : bins ≡ bins_of led c.args.most = omega (arith, c.bins.ensures, c.from-bins.ensures, number) in
     let last : counted * bins - 1 < length c.fill.new.tallies =
     (let r = row_below 0 counted bins 0 (omega arith) (omega arith) in omega (arith, c.fill.ensures.after.room)) in
     let tally_is = get_or_read c.fill.new.tallies (counted * bins - 1) c.index-tallies-counted.result last c.index-tallies-counted.is o.neutral
     ∙ last_tally o L error (g.met.P.Measure.fair c.args.pricer.now) led S c.args.most counted bins number bins_are c.requires.shape.0 (omega arith) c.fill.new.tallies c.fill.new.links c.fill.ensures.after in
-    let table_is = c.table-of-links.ensures.table
+    let table_is = c.table_of_links.ensures.table
     ∙ table_for_same o L (g.P.Measure.error c.fill.new.pricer) error c.fill.ensures.same led S bins counted number (omega arith) (omega arith) in
     record {
       drew = drew o L error (g.met.P.Measure.fair c.args.pricer.now) led S c.args.most counted bins number bins_are c.requires.shape.0 (omega arith) _ _ tally_is table_is (omega arith)
           (c.priced.ensures.counts ∙ ap (λ (n : ℕ). candidates n (min c.args.most n)) number)
           (c.compared.ensures.counts ∙ ap (λ (n : ℕ). path_steps n (min c.args.most n)) number);
-      same = (λ k r a b. c.table-of-links.ensures.same k r a b ∙ c.fill.ensures.same k r a b);
+      same = (λ k r a b. c.table_of_links.ensures.same k r a b ∙ c.fill.ensures.same k r a b);
     }

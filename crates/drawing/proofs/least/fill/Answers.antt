@@ -15,7 +15,7 @@ loop-end-preserved g c =
     let o = g.Kind.Tally.ops in
     let error = g.P.Measure.error c.args.pricer.now in
     let two : c.loop-end.end + 2 ≡ c.loop-end.end + 1 + 1 = omega arith in (
-      (λ k r a b. c.fill-end.ensures.same k r a b ∙ c.loop-end.invariant.0 k r a b),
-      subst (λ (x : ℕ). Searched o (price o error (ledger_of c.args.histogram.now)) c.args.counted c.args.bins x x c.fill-end.new.tallies c.fill-end.new.links) two
-          (c.fill-end.ensures.after error c.loop-end.invariant.0 c.loop-end.invariant.1),
+      (λ k r a b. c.fill_end.ensures.same k r a b ∙ c.loop-end.invariant.0 k r a b),
+      subst (λ (x : ℕ). Searched o (price o error (ledger_of c.args.histogram.now)) c.args.counted c.args.bins x x c.fill_end.new.tallies c.fill_end.new.links) two
+          (c.fill_end.ensures.after error c.loop-end.invariant.0 c.loop-end.invariant.1),
     )

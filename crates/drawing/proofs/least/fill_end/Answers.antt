@@ -16,11 +16,11 @@ loop-start-preserved g c =
     let start = c.loop-start.start - 1 in
     let next : start + 1 ≡ c.loop-start.start = omega arith in
     let inv = c.loop-start.invariant in (
-      (λ k r a b. c.price-run-price.ensures.same k r a b ∙ inv.0 k r a b),
+      (λ k r a b. c.price_run-price.ensures.same k r a b ∙ inv.0 k r a b),
       λ error same before.
           let asked : SameErrors (g.P.Measure.error c.loop-start.pricer) error = λ k r a b. inv.0 k r a b ∙ same k r a b in
-          let price-is = c.price-run-price.ensures.price ∙ price_same o (g.P.Measure.error c.loop-start.pricer) error asked (ledger_of h) (sound_histogram h) start (n - start) (omega arith) (omega arith) in
-          c.place-run.ensures (price o error (ledger_of h)) price-is
+          let price-is = c.price_run-price.ensures.price ∙ price_same o (g.P.Measure.error c.loop-start.pricer) error asked (ledger_of h) (sound_histogram h) start (n - start) (omega arith) (omega arith) in
+          c.place_run.ensures (price o error (ledger_of h)) price-is
           (subst (λ (x : ℕ). Searched o (price o error (ledger_of h)) c.args.counted c.args.bins n x c.loop-start.tallies c.loop-start.links) (sym next) (inv.1 error same before)),
     )
 

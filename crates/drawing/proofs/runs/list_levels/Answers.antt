@@ -5,7 +5,7 @@ use Rattle.counting.proofs.Ledgers.{sound_histogram}
 use Rattle.divisions.proofs.Places.{rank, rank_none, rank_all}
 use Rattle.drawing.proofs.Asked.{listing_one, listing_none}
 use Rattle.drawing.proofs.runs.list_levels.Goals as goal
-use Rattle.drawing.proofs.runs.list_levels.Goals.{then-pixels-at-gt0, else-pixels-at-gt0}
+use Rattle.drawing.proofs.runs.list_levels.Goals.{then-pixels_at-gt0, else-pixels_at-gt0}
 
 pub loop-level-init : goal.loop-level-init
 loop-level-init c = (sym (rank_none (ledger_of c.args.histogram.now)), omega arith, c.told-places, λ i h. absurd (omega arith))
@@ -14,11 +14,11 @@ pub loop-level-preserved : goal.loop-level-preserved
 loop-level-preserved c =
     let h = c.args.histogram.now in
     let g = ledger_of h in
-    elim c.if-pixels-at-gt0.branch [
-      | then-pixels-at-gt0 w ↦ listing_one g c.loop-level.places c.if-pixels-at-gt0.places c.loop-level.counted c.if-pixels-at-gt0.counted c.loop-level.level c.loop-level.invariant
-          (omega arith) (omega (arith, h.range)) (omega (arith, w.if-pixels-at-gt0.true)) w.places-is w.counted-is
-      | else-pixels-at-gt0 w ↦ listing_none g c.loop-level.places c.if-pixels-at-gt0.places c.loop-level.counted c.if-pixels-at-gt0.counted c.loop-level.level c.loop-level.invariant
-          (omega (arith, w.if-pixels-at-gt0.false)) w.places-is w.counted-is
+    elim c.if-pixels_at-gt0.branch [
+      | then-pixels_at-gt0 w ↦ listing_one g c.loop-level.places c.if-pixels_at-gt0.places c.loop-level.counted c.if-pixels_at-gt0.counted c.loop-level.level c.loop-level.invariant
+          (omega arith) (omega (arith, h.range)) (omega (arith, w.if-pixels_at-gt0.true)) w.places-is w.counted-is
+      | else-pixels_at-gt0 w ↦ listing_none g c.loop-level.places c.if-pixels_at-gt0.places c.loop-level.counted c.if-pixels_at-gt0.counted c.loop-level.level c.loop-level.invariant
+          (omega (arith, w.if-pixels_at-gt0.false)) w.places-is w.counted-is
     ]
 
 pub returns : goal.returns

@@ -34,9 +34,9 @@ loop-bin-preserved g c =
     let cell = tracing_cell o error (ledger_of h) c.args.counted bins (omega arith) left n c.loop-bin.bounds c.loop-bin.representatives c.args.tallies.now c.args.links.now (omega arith) (omega arith) t c.requires.searched in
     let link = get_or c.args.links.now ((n - 1) * bins + (left - 1)) 0 in
     let back : n - 1 + 1 - link ≡ n - link = omega (arith, cell.high) in
-    let grey-is = c.price-run-representative.ensures.representative ∙ ap (λ (d : ℕ). representative o (g.P.Measure.error c.loop-bin.pricer) (ledger_of h) link d) back
+    let grey-is = c.price_run-representative.ensures.representative ∙ ap (λ (d : ℕ). representative o (g.P.Measure.error c.loop-bin.pricer) (ledger_of h) link d) back
     ∙ representative_same o (g.P.Measure.error c.loop-bin.pricer) error inv.0 (ledger_of h) (sound_histogram h) link (n - link) (omega (arith, cell.high)) (omega (arith, cell.high, t.within)) in (
-      (λ k r a b. c.price-run-representative.ensures.same k r a b ∙ inv.0 k r a b),
+      (λ k r a b. c.price_run-representative.ensures.same k r a b ∙ inv.0 k r a b),
       tracing_more o error (ledger_of h) c.args.counted bins (omega arith) left n link _ _ c.loop-bin.bounds c.loop-bin.representatives _ (omega arith) (omega arith) t cell
           (c.requires.lists.1 (n - 1) (omega (arith, t.within, t.few))) grey-is,
     )

@@ -6,6 +6,6 @@ pub returns : goal.returns
 returns c =
     let drawing = c.draw-result.ensures.drawing in
     record {
-      told = told_of_scan _ _ _ c.tell.result _ _ _ _ _ _ _ c.draw-result.result c.new-pricer.ensures c.histogram-of-histogram.ensures drawing.refused_exactly drawing.drew c.tell.ensures;
-      lists = kept_of_scan c.args.most (min (length c.args.tallies.now) (length c.args.links.now)) _ _ _ _ _ _ _ _ c.draw-result.result c.histogram-of-histogram.ensures drawing.refused_exactly drawing.unaltered;
+      told = told_of_scan _ _ _ c.tell.result _ _ _ _ _ _ _ c.draw-result.result c.new-pricer.ensures c.histogram_of-histogram.ensures drawing.refused_exactly drawing.drew c.tell.ensures;
+      lists = kept_of_scan c.args.most (min (length c.args.tallies.now) (length c.args.links.now)) _ _ _ _ _ _ _ _ c.draw-result.result c.histogram_of-histogram.ensures drawing.refused_exactly drawing.unaltered;
     }

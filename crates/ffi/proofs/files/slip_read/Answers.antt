@@ -12,16 +12,16 @@ pub returns : goal.returns
 returns c =
     let histogram = c.read.new.histogram in
     let table = c.read.new.table in
-    let reads = c.in-default.ensures in
-    let got : (row : Option Row) → Type 0 = λ row. Got row c.args.file.now 0 c.args.at.now c.write-pixels.new.at c.args.bounds.now c.write-bounds.new.bounds
-    c.args.representatives.now c.write-representatives.new.representatives in
+    let reads = c.in_default.ensures in
+    let got : (row : Option Row) → Type 0 = λ row. Got row c.args.file.now 0 c.args.at.now c.write_pixels.new.at c.args.bounds.now c.write_bounds.new.bounds
+    c.args.representatives.now c.write_representatives.new.representatives in
     subst got (sym reads.0) (record {
       histogram = ledger_of histogram;
       table = table_of table;
       pair = record { histogram = sound_histogram histogram; table = lawful_table table; same = reads.2 };
       reads = reads;
       accepted = refl;
-      pixels_are = c.write-pixels.ensures;
-      bounds_are = c.write-bounds.ensures;
-      greys_are = c.write-representatives.ensures;
+      pixels_are = c.write_pixels.ensures;
+      bounds_are = c.write_bounds.ensures;
+      greys_are = c.write_representatives.ensures;
     })

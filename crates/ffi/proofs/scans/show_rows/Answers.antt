@@ -11,7 +11,7 @@ loop-i-init c = none_yet _ _ _ _ _
 
 pub loop-i-preserved : goal.loop-i-preserved
 loop-i-preserved c =
-    let wrote = c.in-default.ensures in
+    let wrote = c.in_default.ensures in
     one_more (representative_of (table_of c.args.table.now)) (show_row (table_of c.args.table.now)) c.args.width c.args.indices.now c.args.out.now c.loop-i.out c.show.new.out c.loop-i.i
     c.span-from.result.0 c.span-from.result.1 c.span-start.result.0 c.span-start.result.1 c.loop-i.auto.out c.span-from.ensures.0 c.span-from.ensures.1
     c.span-start.ensures.0 c.span-start.ensures.1 c.show.auto.out c.loop-i.invariant wrote.0 wrote.2

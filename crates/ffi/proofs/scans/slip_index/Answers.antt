@@ -10,6 +10,6 @@ pub returns : goal.returns
 returns c =
     let made = c.in-Some.ensures in
     record {
-      lawful = λ _. subst (λ (t : Table). Written (bin_of t) (index_row t) c.args.rows c.args.width c.args.scan.now c.args.out.now c.index-rows.new.out c.index-rows.result) made c.index-rows.ensures;
+      lawful = λ _. subst (λ (t : Table). Written (bin_of t) (index_row t) c.args.rows c.args.width c.args.scan.now c.args.out.now c.index_rows.new.out c.index_rows.result) made c.index_rows.ensures;
       lawless = λ no. absurd (no (subst Lawful made (lawful_table c.in-Some.table)));
     }

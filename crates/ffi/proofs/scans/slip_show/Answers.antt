@@ -10,6 +10,6 @@ pub returns : goal.returns
 returns c =
     let made = c.in-Some.ensures in
     record {
-      lawful = λ _. subst (λ (t : Table). Written (representative_of t) (show_row t) c.args.rows c.args.width c.args.indices.now c.args.out.now c.show-rows.new.out c.show-rows.result) made c.show-rows.ensures;
+      lawful = λ _. subst (λ (t : Table). Written (representative_of t) (show_row t) c.args.rows c.args.width c.args.indices.now c.args.out.now c.show_rows.new.out c.show_rows.result) made c.show_rows.ensures;
       lawless = λ no. absurd (no (subst Lawful made (lawful_table c.in-Some.table)));
     }

@@ -5,21 +5,21 @@ use Rattle.scans.specs.Pgm.{digits, value_from}
 use Rattle.scans.proofs.Headers.{at_no_digit, value_step, value_bound}
 use Rattle.scans.proofs.pgm.decimal.Goals as goal
 
-pub returns-in-err-checked-mul : goal.returns-in-err-checked-mul
-returns-in-err-checked-mul c =
-    let bound = value_bound c.args.text.now c.loop-b.b-index c.loop-b-test.true c.loop-b.value (sym c.if-not-is-ascii-digit.ensures.value) in
-    rw c.from-residual.ensures (λ small. c.in-err-checked-mul.ensures (omega arith))
+pub returns-in_err-checked_mul : goal.returns-in_err-checked_mul
+returns-in_err-checked_mul c =
+    let bound = value_bound c.args.text.now c.loop-b.b-index c.loop-b-test.true c.loop-b.value (sym c.if-not-is_ascii_digit.ensures.value) in
+    rw c.from_residual.ensures (λ small. c.in_err-checked_mul.ensures (omega arith))
 
-pub returns-in-err-value : goal.returns-in-err-value
-returns-in-err-value c =
-    let bound = value_bound c.args.text.now c.loop-b.b-index c.loop-b-test.true c.loop-b.value (sym c.if-not-is-ascii-digit.ensures.value) in
-    rw c.from-residual-in-err-value.ensures (λ small. c.in-err-value.ensures (omega (arith, c.in-ok-checked-mul.ensures)))
+pub returns-in_err-value : goal.returns-in_err-value
+returns-in_err-value c =
+    let bound = value_bound c.args.text.now c.loop-b.b-index c.loop-b-test.true c.loop-b.value (sym c.if-not-is_ascii_digit.ensures.value) in
+    rw c.from_residual-in_err-value.ensures (λ small. c.in_err-value.ensures (omega (arith, c.in_ok-checked_mul.ensures)))
 
 pub loop-b-preserved : goal.loop-b-preserved
 loop-b-preserved c =
-    let step = value_step c.args.text.now c.loop-b.b-index c.loop-b-test.true c.loop-b.value (sym c.if-not-is-ascii-digit.ensures.value) in
-    let n : c.in-ok-value.value ≡ c.loop-b.value * 10 + (get_or c.args.text.now c.loop-b.b-index 0 - 48) = omega (arith, c.in-ok-checked-mul.ensures, c.in-ok-value.ensures) in
-    (rw n (sym step ∙ c.loop-b.invariant.0), omega (arith, c.in-ok-value.ensures))
+    let step = value_step c.args.text.now c.loop-b.b-index c.loop-b-test.true c.loop-b.value (sym c.if-not-is_ascii_digit.ensures.value) in
+    let n : c.in_ok-value.value ≡ c.loop-b.value * 10 + (get_or c.args.text.now c.loop-b.b-index 0 - 48) = omega (arith, c.in_ok-checked_mul.ensures, c.in_ok-value.ensures) in
+    (rw n (sym step ∙ c.loop-b.invariant.0), omega (arith, c.in_ok-value.ensures))
 
 pub returns-after-loop-b : goal.returns-after-loop-b
 returns-after-loop-b c =
@@ -27,8 +27,8 @@ returns-after-loop-b c =
     let is : c.loop-b.value ≡ value_from 0 (digits c.args.text.now) = sym stop ∙ c.loop-b.invariant.0 in
     (omega arith, is)
 
-pub returns-then-not-is-ascii-digit : goal.returns-then-not-is-ascii-digit
-returns-then-not-is-ascii-digit c =
-    let stop = ap (value_from c.loop-b.value) (at_no_digit c.args.text.now c.loop-b.b-index c.loop-b-test.true (sym c.if-not-is-ascii-digit.ensures.value)) in
+pub returns-then-not-is_ascii_digit : goal.returns-then-not-is_ascii_digit
+returns-then-not-is_ascii_digit c =
+    let stop = ap (value_from c.loop-b.value) (at_no_digit c.args.text.now c.loop-b.b-index c.loop-b-test.true (sym c.if-not-is_ascii_digit.ensures.value)) in
     let is : c.loop-b.value ≡ value_from 0 (digits c.args.text.now) = sym stop ∙ c.loop-b.invariant.0 in
     (omega arith, is)

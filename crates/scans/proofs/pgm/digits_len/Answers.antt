@@ -6,12 +6,12 @@ use Rattle.scans.proofs.pgm.digits_len.Goals as goal
 
 pub loop-i-preserved : goal.loop-i-preserved
 loop-i-preserved c =
-    let step = prefix_len-drop_yes is_ascii_digit c.args.bytes.now c.loop-i.i 0 c.loop-i-test.true (sym c.if-not-is-ascii-digit.ensures.value) in
+    let step = prefix_len-drop_yes is_ascii_digit c.args.bytes.now c.loop-i.i 0 c.loop-i-test.true (sym c.if-not-is_ascii_digit.ensures.value) in
     omega arith
 
-pub returns-then-not-is-ascii-digit : goal.returns-then-not-is-ascii-digit
-returns-then-not-is-ascii-digit c =
-    let stop = prefix_len-drop_no is_ascii_digit c.args.bytes.now c.loop-i.i 0 c.loop-i-test.true (sym c.if-not-is-ascii-digit.ensures.value) in
+pub returns-then-not-is_ascii_digit : goal.returns-then-not-is_ascii_digit
+returns-then-not-is_ascii_digit c =
+    let stop = prefix_len-drop_no is_ascii_digit c.args.bytes.now c.loop-i.i 0 c.loop-i-test.true (sym c.if-not-is_ascii_digit.ensures.value) in
     omega arith
 
 pub returns : goal.returns

@@ -5,23 +5,16 @@ use Rattle.scans.proofs.Faults.{ranges}
 use Rattle.scans.proofs.Rasters.{length_whole}
 use Rattle.scans.proofs.pgm.to_scan.Goals as goal
 
-pub invariant-of-result : goal.invariant-of-result
-invariant-of-result c =
+pub invariant_of-result : goal.invariant_of-result
+invariant_of-result c =
     let in_range = ranges c.args.header.width c.args.header.height c.args.header.maximum c.requires.ranges in
-    let are = c.in-ok-pixels.ensures in
-    let count = length_whole c.args.header.width c.args.header.height c.args.header.maximum c.args.samples.now c.requires.size in (
-      in_range.0,
-      (
-        in_range.1,
-        (
-          in_range.2,
-          (
-            in_range.3,
-            (
-              c.in-ok-pixels.pixels.ok.0 ∙ ap length are ∙ count,
-              (ap (within c.args.header.maximum) are ∙ c.requires.bounded, tt),
-            ),
-          ),
-        ),
-      ),
-    )
+    let are = c.in_ok-pixels.ensures in
+    let count = length_whole c.args.header.width c.args.header.height c.args.header.maximum c.args.samples.now c.requires.size in
+    record {
+      wide = in_range.0;
+      high = in_range.1;
+      least = in_range.2;
+      most = in_range.3;
+      whole = c.in_ok-pixels.pixels.ok.0 ∙ ap length are ∙ count;
+      bounded = ap (within c.args.header.maximum) are ∙ c.requires.bounded;
+    }

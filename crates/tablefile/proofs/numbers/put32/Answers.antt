@@ -8,7 +8,7 @@ returns c =
     let n = c.args.number in
     let small : n < 2 ^ 32 = c.ranges.number.fits in
     let high : n / 16777216 % 256 ≡ n / 16777216 = omega arith in
-    let bytes : c.copy-from-slice.new.self ≡ long n =
-    c.copy-from-slice.ensures.after ∙ (c.to-be-bytes.ensures ∙ ap (λ (h : ℕ). h ∷ c.args.number / 65536 % 256 ∷ c.args.number / 256 % 256 ∷ c.args.number % 256 ∷ []) high) in
+    let bytes : c.copy_from_slice.new.self ≡ long n =
+    c.copy_from_slice.ensures.after ∙ (c.to_be_bytes.ensures ∙ ap (λ (h : ℕ). h ∷ c.args.number / 65536 % 256 ∷ c.args.number / 256 % 256 ∷ c.args.number % 256 ∷ []) high) in
     let size : 4 ≡ c.args.place + 4 - c.args.place = omega arith in
-    (refl, put_mid-paste c.args.place _ c.args.out.now c.copy-from-slice.new.self (long n) 4 bytes size refl)
+    (refl, put_mid-paste c.args.place _ c.args.out.now c.copy_from_slice.new.self (long n) 4 bytes size refl)

@@ -8,22 +8,22 @@ use Rattle.tablefile.proofs.Faults.{judged_err, judged_same, cut_row, bins_cut, 
 use Rattle.tablefile.proofs.Bins.{lists_table, table_lawful}
 use Rattle.tablefile.proofs.reads.bins_section.Goals as goal
 
-pub returns-in-err-bins : goal.returns-in-err-bins
-returns-in-err-bins c =
+pub returns-in_err-bins : goal.returns-in_err-bins
+returns-in_err-bins c =
     let file = c.args.file.now in
-    let cut = c.in-err-bins.ensures in
-    judged_err bins_row _ _ _ _ c.from-residual.ensures.1 (bins_cut file c.args.levels c.args.place cut.0 ∙ cut_row 2 file _ cut.1)
+    let cut = c.in_err-bins.ensures in
+    judged_err bins_row _ _ _ _ c.from_residual.ensures.1 (bins_cut file c.args.levels c.args.place cut.0 ∙ cut_row 2 file _ cut.1)
 
 pub returns-then-bins-lt1 : goal.returns-then-bins-lt1
 returns-then-bins-lt1 c =
-    let read = c.in-ok-bins.ensures in
+    let read = c.in_ok-bins.ensures in
     bins_many c.args.file.now c.args.levels c.args.place read.1 (grind (arith, nat_tests))
 
-pub returns-in-err-bounds : goal.returns-in-err-bounds
-returns-in-err-bounds c =
-    let read = c.in-ok-bins.ensures in
-    judged_same bins_row _ _ _ _ c.from-residual-in-err-bounds.ensures.1
-    (bins_entries c.args.file.now c.args.levels c.args.place read.1 (grind (arith, nat_tests)) ∙ c.in-err-bounds.ensures)
+pub returns-in_err-bounds : goal.returns-in_err-bounds
+returns-in_err-bounds c =
+    let read = c.in_ok-bins.ensures in
+    judged_same bins_row _ _ _ _ c.from_residual-in_err-bounds.ensures.1
+    (bins_entries c.args.file.now c.args.levels c.args.place read.1 (grind (arith, nat_tests)) ∙ c.in_err-bounds.ensures)
 
 -- the table that the lists' fronts give
 fronts : (file : List ℕ) (levels place : ℕ) (bounds greys : List ℕ) (bins : ℕ) → bins ≡ bins_in file place → bins ≤ 256 → BinLists file place bounds greys (bins_in file place) →
@@ -35,18 +35,18 @@ fronts file levels place bounds greys bins e few lists =
 pub unreachable-requires : goal.unreachable-requires
 unreachable-requires c =
     let file = c.args.file.now in
-    let read = c.in-ok-bins.ensures in
-    let lists = c.in-ok-bounds.ensures in
+    let read = c.in_ok-bins.ensures in
+    let lists = c.in_ok-bounds.ensures in
     let lawful = table_lawful file c.args.levels c.args.place lists.0 (c.requires.0, c.requires.1) (omega arith) (omega arith) in
-    let is = fronts file c.args.levels c.args.place c.in-ok-bounds.bounds c.in-ok-bounds.representatives c.in-ok-bins.bins read.0 (omega arith) lists.1.0 in
+    let is = fronts file c.args.levels c.args.place c.in_ok-bounds.bounds c.in_ok-bounds.representatives c.in_ok-bins.bins read.0 (omega arith) lists.1.0 in
     c.in-None.ensures (subst Lawful (sym is) lawful)
 
 pub returns : goal.returns
 returns c =
     let file = c.args.file.now in
-    let read = c.in-ok-bins.ensures in
-    let lists = c.in-ok-bounds.ensures in
-    let is = fronts file c.args.levels c.args.place c.in-ok-bounds.bounds c.in-ok-bounds.representatives c.in-ok-bins.bins read.0 (omega arith) lists.1.0 in (
+    let read = c.in_ok-bins.ensures in
+    let lists = c.in_ok-bounds.ensures in
+    let is = fronts file c.args.levels c.args.place c.in_ok-bounds.bounds c.in_ok-bounds.representatives c.in_ok-bins.bins read.0 (omega arith) lists.1.0 in (
       bins_entries file c.args.levels c.args.place read.1 (grind (arith, nat_tests)) ∙ lists.0,
       (c.in-Some.ensures ∙ is, ap (λ (n : ℕ). c.args.place + 2 + 4 * n) read.0, rw read.0 lists.1.1),
     )

@@ -6,31 +6,31 @@ use Rattle.tablefile.specs.Faults.{head_fault, edition_fault}
 use Rattle.tablefile.proofs.Faults.{judged_err, cut_row, first_is, first_then, edition_cut, edition_other, edition_fine, part_cut, part_broken, part_fine}
 use Rattle.tablefile.proofs.reads.head.Goals as goal
 
-pub returns-in-err-edition : goal.returns-in-err-edition
-returns-in-err-edition c =
+pub returns-in_err-edition : goal.returns-in_err-edition
+returns-in_err-edition c =
     let file = c.args.file.now in
-    let cut = c.in-err-edition.ensures in
-    judged_err head_row (head_fault file) _ _ _ c.from-residual.ensures.1 (first_is _ _ _ (edition_cut file cut.0) ∙ cut_row 0 file _ cut.1)
+    let cut = c.in_err-edition.ensures in
+    judged_err head_row (head_fault file) _ _ _ c.from_residual.ensures.1 (first_is _ _ _ (edition_cut file cut.0) ∙ cut_row 0 file _ cut.1)
 
 pub returns-then-edition-ne-EDITION : goal.returns-then-edition-ne-EDITION
 returns-then-edition-ne-EDITION c =
     let file = c.args.file.now in
-    let read = c.in-ok-edition.ensures in
+    let read = c.in_ok-edition.ensures in
     first_is _ _ _ (edition_other file read.1 (λ e. c.if-edition-ne-EDITION.true (read.0 ∙ e))) ∙ ap (λ e. Some (12, e ∷ [])) (sym read.0)
 
-pub returns-in-err-levels : goal.returns-in-err-levels
-returns-in-err-levels c =
+pub returns-in_err-levels : goal.returns-in_err-levels
+returns-in_err-levels c =
     let file = c.args.file.now in
-    let read = c.in-ok-edition.ensures in
-    let cut = c.in-err-levels.ensures in
+    let read = c.in_ok-edition.ensures in
+    let cut = c.in_err-levels.ensures in
     let five : edition_fault file ≡ None = edition_fine file read.1 (sym read.0 ∙ c.if-edition-ne-EDITION.false) in
-    judged_err head_row (head_fault file) _ _ _ c.from-residual-in-err-levels.ensures.1 (first_then _ _ five ∙ part_cut file 0 1 2 _ cut.0 ∙ cut_row 0 file _ cut.1)
+    judged_err head_row (head_fault file) _ _ _ c.from_residual-in_err-levels.ensures.1 (first_then _ _ five ∙ part_cut file 0 1 2 _ cut.0 ∙ cut_row 0 file _ cut.1)
 
 pub returns-then-levels-lt2 : goal.returns-then-levels-lt2
 returns-then-levels-lt2 c =
     let file = c.args.file.now in
-    let read = c.in-ok-edition.ensures in
-    let levels = c.in-ok-levels.ensures in
+    let read = c.in_ok-edition.ensures in
+    let levels = c.in_ok-levels.ensures in
     let five : edition_fault file ≡ None = edition_fine file read.1 (sym read.0 ∙ c.if-edition-ne-EDITION.false) in
     let rule : (leb 2 (levels_in file) && leb (levels_in file) 1024) ≡ false = grind (arith, nat_tests) in
     first_then _ _ five ∙ part_broken file 0 1 2 _ levels.1 rule
@@ -38,8 +38,8 @@ returns-then-levels-lt2 c =
 pub returns : goal.returns
 returns c =
     let file = c.args.file.now in
-    let read = c.in-ok-edition.ensures in
-    let levels = c.in-ok-levels.ensures in
+    let read = c.in_ok-edition.ensures in
+    let levels = c.in_ok-levels.ensures in
     let five : edition_fault file ≡ None = edition_fine file read.1 (sym read.0 ∙ c.if-edition-ne-EDITION.false) in
     let rule : (leb 2 (levels_in file) && leb (levels_in file) 1024) ≡ true = grind (arith, nat_tests) in
     (first_then _ _ five ∙ part_fine file 0 1 2 _ levels.1 rule, (levels.0, omega arith, omega arith, levels.1))

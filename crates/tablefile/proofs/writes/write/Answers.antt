@@ -17,8 +17,8 @@ returns-then-out-needed c =
     let all = bytes_long g t in
     (write_short g t _ _ (omega arith) (omega arith) (omega arith), refl)
 
-pub put-level-entries-place-requires : goal.put-level-entries-place-requires
-put-level-entries-place-requires c =
+pub put_level_entries-place-requires : goal.put_level_entries-place-requires
+put_level_entries-place-requires c =
     let h = c.args.histogram.now in
     let many = counted_number (ledger_of h) (sound_histogram h).width in
     omega arith
@@ -30,8 +30,8 @@ put16-place-requires-2 c =
     let levels = entries_long (ledger_of h) in
     omega arith
 
-pub put-bin-entries-requires : goal.put-bin-entries-requires
-put-bin-entries-requires c =
+pub put_bin_entries-requires : goal.put_bin_entries-requires
+put_bin_entries-requires c =
     let h = c.args.histogram.now in
     let many = counted_number (ledger_of h) (sound_histogram h).width in
     let levels = entries_long (ledger_of h) in
@@ -46,10 +46,10 @@ returns c =
     let many = counted_number g (sound_histogram h).width in
     let all = bytes_long g t in
     let room : length (bytes_of g t) ≤ length out = omega arith in
-    let head = subst (λ (n : ℕ). PutAt out 0 (head_bytes n) c.put-head-place.result c.put-head-place.new.out) c.levels-levels.ensures c.put-head-place.ensures in
-    let bins = subst (λ (n : ℕ). PutAt c.put-level-entries-place.new.out c.put-level-entries-place.result (word n) c.put16-place-2.result c.put16-place-2.new.out) c.bins-bins.ensures c.put16-place-2.ensures in
-    let put = whole_put g t c.counted-levels-counted.result out c.put-head-place.new.out c.put16-place.new.out c.put-level-entries-place.new.out c.put16-place-2.new.out c.put-bin-entries.new.out
-    c.put-head-place.result c.put16-place.result c.put-level-entries-place.result c.put16-place-2.result c.put-bin-entries.result
-    room (c.counted-levels-counted.ensures ∙ many) head c.put16-place.ensures c.put-level-entries-place.ensures bins c.put-bin-entries.ensures in
-    let written = put_over out c.put-bin-entries.new.out (bytes_of g t) c.put-bin-entries.result put in
+    let head = subst (λ (n : ℕ). PutAt out 0 (head_bytes n) c.put_head-place.result c.put_head-place.new.out) c.levels-levels.ensures c.put_head-place.ensures in
+    let bins = subst (λ (n : ℕ). PutAt c.put_level_entries-place.new.out c.put_level_entries-place.result (word n) c.put16-place-2.result c.put16-place-2.new.out) c.bins-bins.ensures c.put16-place-2.ensures in
+    let put = whole_put g t c.counted_levels-counted.result out c.put_head-place.new.out c.put16-place.new.out c.put_level_entries-place.new.out c.put16-place-2.new.out c.put_bin_entries.new.out
+    c.put_head-place.result c.put16-place.result c.put_level_entries-place.result c.put16-place-2.result c.put_bin_entries.result
+    room (c.counted_levels-counted.ensures ∙ many) head c.put16-place.ensures c.put_level_entries-place.ensures bins c.put_bin_entries.ensures in
+    let written = put_over out c.put_bin_entries.new.out (bytes_of g t) c.put_bin_entries.result put in
     (write_enough g t (length out) (omega arith) room, written.0, written.1)

@@ -2,16 +2,17 @@ use Rattle.std.proofs.Common.{ℕ, List, length, sum, sym, ap, ◌∙◌, arith}
 use Rattle.counting.proofs.Rows.{front_is}
 use Rattle.counting.proofs.histogram.Histogram.of.Goals as goal
 
-pub invariant-of-result : goal.invariant-of-result
-invariant-of-result c =
+pub invariant_of-result : goal.invariant_of-result
+invariant_of-result c =
     let pixels = c.args.pixels.now in
-    let front = front_is pixels c.padded.result (omega (arith, c.padded.ensures.width)) c.padded.ensures.numbers in (
-      (omega arith, omega arith),
-      (
-        c.padded.ensures.width,
-        (c.in-ok-total.ensures ∙ sym (ap sum front), (omega arith, (c.padded.ensures.zeros, tt))),
-      ),
-    )
+    let front = front_is pixels c.padded.result (omega (arith, c.padded.ensures.width)) c.padded.ensures.numbers in
+    record {
+      range = (omega arith, omega arith);
+      width = c.padded.ensures.width;
+      balance = c.in_ok-total.ensures ∙ sym (ap sum front);
+      fits = omega arith;
+      past = c.padded.ensures.zeros;
+    }
 
 pub returns : goal.returns
 returns c =

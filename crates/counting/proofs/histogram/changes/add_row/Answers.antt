@@ -4,8 +4,8 @@ use Rattle.counting.specs.Ledger.{occurs}
 use Rattle.counting.proofs.Rows.{changed_more}
 use Rattle.counting.proofs.histogram.changes.add_row.Goals as goal
 
-pub overflow-add-pixels : goal.overflow-add-pixels
-overflow-add-pixels c =
+pub overflow_add-pixels : goal.overflow_add-pixels
+overflow_add-pixels c =
     let p = get_or c.args.row.now c.loop-pixel.pixel-index 0 in
     let level = c.requires.levels c.loop-pixel.pixel-index (omega arith) in
     let part = get_or-le-sum_by (λ x. x) c.loop-pixel.pixels p 0 (omega arith) in

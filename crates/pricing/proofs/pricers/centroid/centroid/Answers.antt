@@ -6,25 +6,25 @@ use Rattle.pricing.proofs.CentroidPrices.{no_pixels_priceless, cost_within, cent
 use Rattle.pricing.proofs.pricers.centroid.centroid.Goals as goal
 
 pub returns-then-sums-eq0 : goal.returns-then-sums-eq0
-returns-then-sums-eq0 c = no_pixels_priceless (ledger_of c.args.histogram.now) c.args.a c.args.b _ _ _ c.add-up-sums.ensures c.if-sums-eq0.true
+returns-then-sums-eq0 c = no_pixels_priceless (ledger_of c.args.histogram.now) c.args.a c.args.b _ _ _ c.add_up-sums.ensures c.if-sums-eq0.true
 
 pub nearest-r-requires : goal.nearest-r-requires
-nearest-r-requires c = (omega arith, range_small c.args.histogram.now c.args.a c.args.b _ _ _ (omega arith) c.add-up-sums.ensures)
+nearest-r-requires c = (omega arith, range_small c.args.histogram.now c.args.a c.args.b _ _ _ (omega arith) c.add_up-sums.ensures)
 
-pub squared-errors-sum-requires : goal.squared-errors-sum-requires
-squared-errors-sum-requires c =
-    let small = range_small c.args.histogram.now c.args.a c.args.b _ _ _ (omega arith) c.add-up-sums.ensures in (
-      omega (arith, c.nearest-r.ensures, mean_fits c.add-up-sums.result.pixels c.add-up-sums.result.levels (omega arith) small.low),
+pub squared_errors-sum-requires : goal.squared_errors-sum-requires
+squared_errors-sum-requires c =
+    let small = range_small c.args.histogram.now c.args.a c.args.b _ _ _ (omega arith) c.add_up-sums.ensures in (
+      omega (arith, c.nearest-r.ensures, mean_fits c.add_up-sums.result.pixels c.add_up-sums.result.levels (omega arith) small.low),
       small,
-      cost_within (ledger_of c.args.histogram.now) c.args.a c.args.b _ _ _ c.add-up-sums.ensures c.nearest-r.result,
+      cost_within (ledger_of c.args.histogram.now) c.args.a c.args.b _ _ _ c.add_up-sums.ensures c.nearest-r.result,
     )
 
-pub overflow-cast-result : goal.overflow-cast-result
-overflow-cast-result c =
-    let small = range_small c.args.histogram.now c.args.a c.args.b _ _ _ (omega arith) c.add-up-sums.ensures in
-    omega (arith, c.nearest-r.ensures, mean_fits c.add-up-sums.result.pixels c.add-up-sums.result.levels (omega arith) small.low)
+pub overflow_cast-result : goal.overflow_cast-result
+overflow_cast-result c =
+    let small = range_small c.args.histogram.now c.args.a c.args.b _ _ _ (omega arith) c.add_up-sums.ensures in
+    omega (arith, c.nearest-r.ensures, mean_fits c.add_up-sums.result.pixels c.add_up-sums.result.levels (omega arith) small.low)
 
 pub returns : goal.returns
 returns c =
-    centroid_priced (ledger_of c.args.histogram.now) c.args.a c.args.b c.add-up-sums.result.pixels c.add-up-sums.result.levels c.add-up-sums.result.squares c.add-up-sums.ensures
-    c.nearest-r.result (omega arith) c.nearest-r.ensures _ (few_pixels c.args.histogram.now) (omega arith) (omega arith) c.squared-errors-sum.ensures
+    centroid_priced (ledger_of c.args.histogram.now) c.args.a c.args.b c.add_up-sums.result.pixels c.add_up-sums.result.levels c.add_up-sums.result.squares c.add_up-sums.ensures
+    c.nearest-r.result (omega arith) c.nearest-r.ensures _ (few_pixels c.args.histogram.now) (omega arith) (omega arith) c.squared_errors-sum.ensures

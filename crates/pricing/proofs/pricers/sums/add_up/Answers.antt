@@ -9,20 +9,20 @@ pub loop-k-init : goal.loop-k-init
 loop-k-init c = added_none _ _ _ (omega arith)
 
 pub loop-k-preserved : goal.loop-k-preserved
-loop-k-preserved c = added_more _ _ c.loop-k.k c.pixels-at-n.result _ _ _ (omega arith) c.pixels-at-n.ensures c.loop-k.invariant
+loop-k-preserved c = added_more _ _ c.loop-k.k c.pixels_at-n.result _ _ _ (omega arith) c.pixels_at-n.ensures c.loop-k.invariant
 
 -- the sums after a turn
-small : (c : goal.After-pixels-at-n) → Small (c.loop-k.pixels + c.pixels-at-n.result) (c.loop-k.levels + c.pixels-at-n.result * c.loop-k.k) (c.loop-k.squares + c.pixels-at-n.result * c.loop-k.k * c.loop-k.k)
+small : (c : goal.After-pixels_at-n) → Small (c.loop-k.pixels + c.pixels_at-n.result) (c.loop-k.levels + c.pixels_at-n.result * c.loop-k.k) (c.loop-k.squares + c.pixels_at-n.result * c.loop-k.k * c.loop-k.k)
 small c = added_small (ledger_of c.args.histogram.now) c.args.a (c.loop-k.k + 1 - c.args.a) _ _ _ (few_pixels c.args.histogram.now) (λ k a b. omega arith) (loop-k-preserved c)
 
-pub overflow-add-pixels : goal.overflow-add-pixels
-overflow-add-pixels c = omega (arith, (small c).few)
+pub overflow_add-pixels : goal.overflow_add-pixels
+overflow_add-pixels c = omega (arith, (small c).few)
 
-pub overflow-add-levels : goal.overflow-add-levels
-overflow-add-levels c = omega (arith, (small c).few, (small c).low)
+pub overflow_add-levels : goal.overflow_add-levels
+overflow_add-levels c = omega (arith, (small c).few, (small c).low)
 
-pub overflow-add-squares : goal.overflow-add-squares
-overflow-add-squares c = omega (arith, (small c).few, (small c).low_squares)
+pub overflow_add-squares : goal.overflow_add-squares
+overflow_add-squares c = omega (arith, (small c).few, (small c).low_squares)
 
 pub returns : goal.returns
 returns c = added_all (ledger_of c.args.histogram.now) c.args.a c.args.b c.loop-k.k _ _ _ (omega arith) c.loop-k.invariant

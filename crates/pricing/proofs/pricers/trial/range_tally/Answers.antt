@@ -17,15 +17,15 @@ loop-k-preserved g c =
     let k = c.loop-k.k in
     elim c.if-pixels-gt0.branch [
       | then-pixels-gt0 w ↦ (
-        w.tally-is ∙ costs_counted o ledger (λ k. error k c.args.r) c.args.a k c.pixels-at-pixels.result w.error.result w.charge.result c.loop-k.tally w.join-tally.result
-            (omega arith) c.pixels-at-pixels.ensures w.if-pixels-gt0.true
+        w.tally-is ∙ costs_counted o ledger (λ k. error k c.args.r) c.args.a k c.pixels_at-pixels.result w.error.result w.charge.result c.loop-k.tally w.join-tally.result
+            (omega arith) c.pixels_at-pixels.ensures w.if-pixels-gt0.true
             (asked_is before error k c.args.r w.error.result c.loop-k.invariant.1 (omega arith) (omega arith) w.error.ensures.value)
             w.charge.ensures c.loop-k.invariant.0 w.join-tally.ensures,
         λ j r a b. ap (λ m. g.M.Measure.error m j r) w.measure-is ∙ w.error.ensures.same j r a b ∙ c.loop-k.invariant.1 j r a b,
       )
       | else-pixels-gt0 w ↦ (
-        w.tally-is ∙ costs_uncounted o g.met.T.Tally.laws ledger (λ k. error k c.args.r) c.args.a k c.pixels-at-pixels.result c.loop-k.tally
-            (omega arith) c.pixels-at-pixels.ensures w.if-pixels-gt0.false c.loop-k.invariant.0,
+        w.tally-is ∙ costs_uncounted o g.met.T.Tally.laws ledger (λ k. error k c.args.r) c.args.a k c.pixels_at-pixels.result c.loop-k.tally
+            (omega arith) c.pixels_at-pixels.ensures w.if-pixels-gt0.false c.loop-k.invariant.0,
         λ j r a b. ap (λ m. g.M.Measure.error m j r) w.measure-is ∙ c.loop-k.invariant.1 j r a b,
       )
     ]

@@ -3,8 +3,8 @@ use Rattle.std.proofs.Common.{◌≡◌, ◌*◌, length, vec_items, sym, ap, �
 use Rattle.scans.proofs.Rasters.{part_is, row_fits, row_past, row_bounded, length_row}
 use Rattle.scans.proofs.scan.Scan.row.Goals as goal
 
-pub slice-bounds-result-end : goal.slice-bounds-result-end
-slice-bounds-result-end c =
+pub slice_bounds-result-end : goal.slice_bounds-result-end
+slice_bounds-result-end c =
     let s = c.args.self.now in
     let size = sym s.pixels.ok.0 ∙ s.whole in
     let fits = row_fits s.width (vec_items s.pixels) s.height c.args.y size s.wide c.if-y-self.true in

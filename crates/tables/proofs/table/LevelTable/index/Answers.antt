@@ -8,14 +8,14 @@ use Rattle.tables.proofs.table.LevelTable.index.Goals as goal
 
 pub bounds-self-pixel : goal.bounds-self-pixel
 bounds-self-pixel c =
-    let below = all_below c.args.self.now.levels c.args.row.now c.in-default.ensures c.loop-i.i (omega arith) in
+    let below = all_below c.args.self.now.levels c.args.row.now c.in_default.ensures c.loop-i.i (omega arith) in
     omega (arith, c.args.self.now.range)
 
 pub loop-i-preserved : goal.loop-i-preserved
 loop-i-preserved c =
     let t = table_of c.args.self.now in
     let row = c.args.row.now in
-    let below = all_below c.args.self.now.levels row c.in-default.ensures c.loop-i.i (omega arith) in
+    let below = all_below c.args.self.now.levels row c.in_default.ensures c.loop-i.i (omega arith) in
     ap (λ (v : ℕ). set c.loop-i.out c.loop-i.i v) (c.args.self.now.lowest (get_or row c.loop-i.i 0) below)
     ∙ fill_more (bin_of t) row c.args.out.now c.loop-i.out c.loop-i.i (omega arith) (omega arith) c.loop-i.invariant
 
@@ -23,7 +23,7 @@ pub returns : goal.returns
 returns c =
     let t = table_of c.args.self.now in
     let row = c.args.row.now in (
-      fits_room _ _ _ _ c.in-default.ensures ∙ room_enough _ _ (omega arith),
+      fits_room _ _ _ _ c.in_default.ensures ∙ room_enough _ _ (omega arith),
       sym (length-map row (bin_of t)),
       fill_all (bin_of t) row c.args.out.now c.loop-i.out c.loop-i.i (omega arith) c.loop-i.invariant,
     )

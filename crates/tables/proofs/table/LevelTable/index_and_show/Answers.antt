@@ -8,10 +8,10 @@ use Rattle.tables.proofs.Bins.{lawful_table}
 use Rattle.tables.proofs.Rows.{none_fits, reshown}
 use Rattle.tables.proofs.table.LevelTable.index_and_show.Goals as goal
 
-pub slice-bounds-show-end : goal.slice-bounds-show-end
-slice-bounds-show-end c =
+pub slice_bounds-show-end : goal.slice_bounds-show-end
+slice_bounds-show-end c =
     let row = c.args.row.now in
-    let index = c.in-ok-written.ensures in
+    let index = c.in_ok-written.ensures in
     let fits = none_fits _ (length row) (length c.args.indices.now) _ (prefix_len-le-length _ row) index.0 in
     let long = length-map row (bin_of (table_of c.args.self.now)) in
     search rules
@@ -20,9 +20,9 @@ pub returns : goal.returns
 returns c =
     let self = c.args.self.now in
     let row = c.args.row.now in
-    let index = c.in-ok-written.ensures in
+    let index = c.in_ok-written.ensures in
     let fits = none_fits _ (length row) (length c.args.indices.now) _ (prefix_len-le-length _ row) index.0 in
-    let part : take (c.in-ok-written.written - 0) c.index.new.out ≡ indexed (table_of self) row =
-    ap (λ (out : List ℕ). take (c.in-ok-written.written - 0) out) index.2 ∙ take_at (indexed (table_of self) row) _ _ (omega (arith, index.1)) in
+    let part : take (c.in_ok-written.written - 0) c.index.new.out ≡ indexed (table_of self) row =
+    ap (λ (out : List ℕ). take (c.in_ok-written.written - 0) out) index.2 ∙ take_at (indexed (table_of self) row) _ _ (omega (arith, index.1)) in
     reshown (table_of self) (lawful_table self) row fits.0 c.show.result c.args.indices.now c.index.new.out c.args.greys.now c.show.new.out _
     fits.1 c.if-greys-row.false index.2 part c.show.ensures

@@ -13,7 +13,7 @@ loop-i-preserved c =
     let self = c.args.self.now in
     let t = table_of self in
     let indices = c.args.indices.now in
-    let below = all_below self.bins indices c.in-default.ensures c.loop-i.i (omega arith) in
+    let below = all_below self.bins indices c.in_default.ensures c.loop-i.i (omega arith) in
     let index = get_or indices c.loop-i.i 0 in
     ap (λ (v : ℕ). set c.loop-i.out c.loop-i.i v) (sym (get_or-take self.bins self.representatives index 0 below))
     ∙ fill_more (representative_of t) indices c.args.out.now c.loop-i.out c.loop-i.i (omega arith) (omega arith) c.loop-i.invariant
@@ -24,7 +24,7 @@ returns c =
     let t = table_of self in
     let indices = c.args.indices.now in
     let bins : length t.bounds ≡ self.bins = length-take-le self.bins self.bounds (omega (arith, self.few, self.widths)) in (
-      fits_room (first_no_bin t indices) (length indices) _ _ (ap (λ (n : ℕ). prefix_len (λ i. ltb i n) indices) bins ∙ c.in-default.ensures) ∙ room_enough _ _ (omega arith),
+      fits_room (first_no_bin t indices) (length indices) _ _ (ap (λ (n : ℕ). prefix_len (λ i. ltb i n) indices) bins ∙ c.in_default.ensures) ∙ room_enough _ _ (omega arith),
       sym (length-map indices (representative_of t)),
       fill_all (representative_of t) indices c.args.out.now c.loop-i.out c.loop-i.i (omega arith) c.loop-i.invariant,
     )

@@ -5,5 +5,5 @@ use Rattle.pricing.proofs.layers.weight_list.methods.padded.Goals as goal
 
 pub returns : goal.returns
 returns c =
-    let copied = c.copy-from-slice.ensures.after in
+    let copied = c.copy_from_slice.ensures.after in
     (search (rules, places), take_at _ _ _ (ap length copied) ∙ copied)
