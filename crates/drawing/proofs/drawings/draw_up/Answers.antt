@@ -25,14 +25,14 @@ table_of_links-requires g c =
     record {
       shape = (omega (arith, c.bins.ensures, number), omega (arith, c.bins.ensures), omega (arith, c.bins.ensures), number);
       lists = c.list_levels-counted.ensures.lists;
-      searched = filled_same g.Kind.Tally.ops g.met.Kind.Tally.laws (g.P.Measure.error c.args.pricer.now) (g.P.Measure.error c.fill.new.pricer) (λ k r a b. sym (c.fill.ensures.same k r a b))
+      searched = filled_same g.P.Kind.Tally.ops g.met.P.Kind.Tally.laws (g.P.Measure.error c.args.pricer.now) (g.P.Measure.error c.fill.new.pricer) (λ k r a b. sym (c.fill.ensures.same k r a b))
           (ledger_of h) (sound_histogram h) c.list_levels-counted.result c.from-bins.result c.fill.new.tallies c.fill.new.links number c.fill.ensures.after;
     }
 
 pub returns : goal.returns
 returns g c =
-    let o = g.Kind.Tally.ops in
-    let L = g.met.Kind.Tally.laws in
+    let o = g.P.Kind.Tally.ops in
+    let L = g.met.P.Kind.Tally.laws in
     let error = g.P.Measure.error c.args.pricer.now in
     let h = c.args.histogram.now in
     let led = ledger_of h in

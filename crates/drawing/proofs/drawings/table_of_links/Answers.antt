@@ -8,7 +8,7 @@ pub unreachable-requires : goal.unreachable-requires
 unreachable-requires g c =
     let h = c.args.histogram.now in
     c.in-None.ensures
-    (traced_lawful g.Kind.Tally.ops g.met.Kind.Tally.laws (g.P.Measure.error c.args.pricer.now) (ledger_of h) (sound_histogram h) c.args.counted c.args.bins
+    (traced_lawful g.P.Kind.Tally.ops g.met.P.Kind.Tally.laws (g.P.Measure.error c.args.pricer.now) (ledger_of h) (sound_histogram h) c.args.counted c.args.bins
     c.requires.shape.3 c.requires.shape.0 c.requires.shape.2 c.trace.new.bounds c.trace.new.representatives _ _
     (omega (arith, c.levels.ensures)) c.levels-2.ensures c.trace.ensures.bounds c.trace.ensures.representatives c.requires.shape.1)
 
@@ -17,7 +17,7 @@ returns g c =
     let h = c.args.histogram.now in
     record {
       table = c.in-Some.ensures
-          ∙ traced_table g.Kind.Tally.ops g.met.Kind.Tally.laws (g.P.Measure.error c.args.pricer.now) (ledger_of h) (sound_histogram h) c.args.counted c.args.bins
+          ∙ traced_table g.P.Kind.Tally.ops g.met.P.Kind.Tally.laws (g.P.Measure.error c.args.pricer.now) (ledger_of h) (sound_histogram h) c.args.counted c.args.bins
           c.requires.shape.3 c.requires.shape.0 c.requires.shape.2 c.trace.new.bounds c.trace.new.representatives _ _
           (omega (arith, c.levels.ensures)) c.levels-2.ensures c.trace.ensures.bounds c.trace.ensures.representatives;
       same = c.trace.ensures.same;

@@ -7,7 +7,7 @@ use Rattle.drawing.proofs.least.fill.Given as goal
 
 abbrev pub invariant-loop-end : goal.invariant-loop-end
 invariant-loop-end g l =
-    let o = g.Kind.Tally.ops in
+    let o = g.P.Kind.Tally.ops in
     let error = g.P.Measure.error in
     SameErrors (error l.pricer) (error l.initial.pricer)
     × Searched o (price o (error l.initial.pricer) (ledger_of l.histogram)) l.counted l.bins (l.end + 1) (l.end + 1) l.tallies l.links

@@ -10,7 +10,7 @@ use Rattle.drawing.proofs.least.fill_end.Goals as goal
 
 pub loop-start-preserved : goal.loop-start-preserved
 loop-start-preserved g c =
-    let o = g.Kind.Tally.ops in
+    let o = g.P.Kind.Tally.ops in
     let h = c.args.histogram.now in
     let n = c.args.end + 1 in
     let start = c.loop-start.start - 1 in
@@ -26,12 +26,12 @@ loop-start-preserved g c =
 
 pub returns : goal.returns
 returns g c =
-    let o = g.Kind.Tally.ops in
+    let o = g.P.Kind.Tally.ops in
     let two : c.args.end + 1 + 1 ≡ c.args.end + 2 = omega arith in
     record {
       after = (λ error same before.
           subst (λ (x : ℕ). Searched o (price o error (ledger_of c.args.histogram.now)) c.args.counted c.args.bins x x c.loop-start.tallies c.loop-start.links) two
-          (row_filled o g.met.Kind.Tally.laws (price o error (ledger_of c.args.histogram.now)) c.args.counted c.args.bins (c.args.end + 1) c.loop-start.start
+          (row_filled o g.met.P.Kind.Tally.laws (price o error (ledger_of c.args.histogram.now)) c.args.counted c.args.bins (c.args.end + 1) c.loop-start.start
           (omega arith) (omega arith) (omega arith) c.loop-start.tallies c.loop-start.links (c.loop-start.invariant.1 error same before)));
       same = c.loop-start.invariant.0;
     }

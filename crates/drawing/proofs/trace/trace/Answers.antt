@@ -9,7 +9,7 @@ use Rattle.drawing.proofs.trace.trace.Goals as goal
 
 pub loop-bin-init : goal.loop-bin-init
 loop-bin-init g c =
-    let o = g.Kind.Tally.ops in (
+    let o = g.P.Kind.Tally.ops in (
       (λ k r a b. refl),
       tracing_start o (g.P.Measure.error c.args.pricer.now) (ledger_of c.args.histogram.now) c.args.counted c.args.bins (omega arith) c.args.bounds.now c.args.representatives.now
           (omega arith) c.requires.shape.3 c.requires.shape.4,
@@ -23,7 +23,7 @@ bounds-links-end g c =
 
 pub loop-bin-preserved : goal.loop-bin-preserved
 loop-bin-preserved g c =
-    let o = g.Kind.Tally.ops in
+    let o = g.P.Kind.Tally.ops in
     let h = c.args.histogram.now in
     let error = g.P.Measure.error c.args.pricer.now in
     let bins = c.args.bins in
@@ -43,6 +43,6 @@ loop-bin-preserved g c =
 
 pub returns : goal.returns
 returns g c =
-    let all = tracing_end g.Kind.Tally.ops (g.P.Measure.error c.args.pricer.now) (ledger_of c.args.histogram.now) c.args.counted c.args.bins (omega arith)
+    let all = tracing_end g.P.Kind.Tally.ops (g.P.Measure.error c.args.pricer.now) (ledger_of c.args.histogram.now) c.args.counted c.args.bins (omega arith)
     c.loop-bin.bin c.loop-bin.end c.loop-bin.bounds c.loop-bin.representatives (omega arith) c.loop-bin.invariant.1 in
     record { bounds = all.0; representatives = all.1; same = c.loop-bin.invariant.0 }
