@@ -19,7 +19,7 @@ pub returns : goal.returns
 returns c =
     c.loop-level.invariant.0 ∙ same_before (ledger_of c.args.histogram.now) c.args.first c.loop-level.level (c.args.last + 1) (omega arith)
 
-pub returns·2 : goal.returns·2
-returns·2 c =
+pub returns-2 : goal.returns-2
+returns-2 c =
     let g = ledger_of c.args.histogram.now in
     omega (arith, before_more g c.args.first c.loop-level.level (omega arith), same_before g c.args.first (c.loop-level.level + 1) (c.args.last + 1) (omega arith))
