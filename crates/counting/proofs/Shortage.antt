@@ -1,5 +1,5 @@
 -- One more pixel taken off: which level is then the lowest that has not enough.
-use Rattle.std.proofs.Common.{◌≡◌, ℕ, ◌+◌, ◌-◌, ◌<◌, ◌≤◌, min, ◌≢◌, ◌⊎◌, List, length, get_or, take, set, IfNone, Some, None, sum, Option, sym, refl, ap, ◌∙◌, subst, inl, inr, arith, length-set, MatchOption}
+use Rattle.std.proofs.Common.{◌≡◌, ℕ, ◌+◌, ◌-◌, ◌<◌, ◌≤◌, min, ◌≢◌, ◌⊎◌, List, length, get_or, take, set, IfNone, Some, None, sum, Option, ◌∙◌, inl, inr, arith, length-set, MatchOption}
 use Rattle.std.proofs.lemmas.Bool.{cases_eq, cases_lt}
 use Rattle.std.proofs.lemmas.List.Sums.{sum_by-set}
 use Rattle.std.proofs.lemmas.List.{set-get_or}

@@ -1,6 +1,6 @@
 -- The ledger of a run of calls: how many levels there are and how many pixels stand at each,
 -- worked out from what the calls asked for and from nothing else.
-use Rattle.std.specs.Prelude.{ℕ, ◌+◌, ◌-◌, Bool, cond, ◌&&◌, ltb, leb, List, [], ◌∷◌, map, length, replicate, fold, sum, count_by, nat_eq, nat_le, nat_lt, slice_index}
+use Rattle.std.specs.Prelude.{ℕ, ◌+◌, ◌-◌, cond, ◌&&◌, ltb, leb, List, [], ◌∷◌, map, length, replicate, sum, count_by, nat_eq, nat_le, nat_lt, slice_index}
 use Rattle.std.specs.List.{range_with_len, prefix_len}
 
 -- the number of levels, and the pixels at each of them

@@ -1,6 +1,6 @@
 -- What the types of the code mean: the ledger of a histogram, what a call asks for and what an answer tells.
-use Rattle.std.specs.Prelude.{◌≡◌, ℕ, List, [], ◌∷◌, take, IfErr, Ok, Err, Result}
-use Rattle.counting.specs.Ledger.{Ledger, Asked, opened, counted, withdrawn, cleared, Told, done, now_total, refused, step}
+use Rattle.std.specs.Prelude.{◌≡◌, ℕ, take, IfErr, Ok, Err, Result}
+use Rattle.counting.specs.Ledger.{Ledger, Asked, Told, done, now_total, refused, step}
 use Rattle.refusals.specs.Refusals.{refusal_number, carried}
 use Rattle.refusals.specs.declared.refusal.Refusal.{Refusal}
 use Rattle.counting.specs.declared.histogram.Histogram.{Histogram}

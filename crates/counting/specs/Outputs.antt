@@ -1,5 +1,5 @@
 -- What a call does that writes the first cells of a lent output, or is refused.
-use Rattle.std.specs.Prelude.{◌≡◌, ℕ, List, [], ◌∷◌, ◌++◌, length, drop, Some, None, Ok, Err, Option, Result}
+use Rattle.std.specs.Prelude.{◌≡◌, ℕ, List, ◌++◌, length, drop, Some, None, Ok, Err, Option, Result}
 use Rattle.refusals.specs.Refusals.{refusal_number, carried}
 use Rattle.refusals.specs.declared.refusal.Refusal.{Refusal}
 

@@ -1,5 +1,5 @@
 -- A run of calls as the code has it: what each call asks for, what each answer tells, and what a run leaves.
-use Rattle.std.specs.Prelude.{◌≡◌, ℕ, min, List, map, length, take, drop}
+use Rattle.std.specs.Prelude.{◌≡◌, min, List, map, length, take, drop}
 use Rattle.counting.specs.Ledger.{Asked, opened, counted, withdrawn, cleared, Told, done, now_total, refused, step, after, told}
 use Rattle.refusals.specs.Refusals.{refusal_number, carried}
 use Rattle.counting.specs.Meaning.{ledger_of}

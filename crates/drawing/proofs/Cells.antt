@@ -1,8 +1,8 @@
 -- How cells are filled: one run put after the runs of fewer levels, at each bin number that it can have.
-use Rattle.std.proofs.Common.{◌≡◌, ℕ, zero, suc, ◌+◌, ◌-◌, ◌*◌, ◌<◌, ◌≤◌, Bool, true, false, cond, ◌≢◌, ◌⊎◌, List, [], ◌∷◌, length, get_or, set, sym, refl, ap, ◌∙◌, ap₂, inl, inr, arith, length-set}
+use Rattle.std.proofs.Common.{◌≡◌, ℕ, ◌+◌, ◌<◌, Bool, cond, ◌≢◌, List, length, get_or, set, refl, ◌∙◌, ap₂, inl, inr, arith, length-set}
 use Rattle.std.proofs.lemmas.List.{get_or-set_same, get_or-set_other}
-use Rattle.std.proofs.lemmas.Bool.{cases_eq, cases_lt}
-use Rattle.pricing.specs.Tallies.{Ops, Laws, NotAbove}
+use Rattle.std.proofs.lemmas.Bool.{cases_eq}
+use Rattle.pricing.specs.Tallies.{Ops}
 use Rattle.drawing.specs.Cells.{Turned}
 
 module _ {C : Type 0} (o : Ops C) (keep : C → C → Bool) (price : C) (start row before : ℕ) where

@@ -1,10 +1,10 @@
 -- One run placed: one start more has been tried.
-use Rattle.std.proofs.Common.{◌≡◌, ℕ, zero, suc, ◌+◌, ◌-◌, ◌*◌, ◌<◌, ◌≤◌, min, max, Bool, true, false, cond, ◌≢◌, ◌⊎◌, List, [], ◌∷◌, length, get_or, set, sym, refl, ap, ◌∙◌, subst, ap₂, inl, inr, add-one, arith, length-set}
+use Rattle.std.proofs.Common.{◌≡◌, ℕ, zero, suc, ◌+◌, ◌-◌, ◌*◌, ◌<◌, ◌≤◌, max, Bool, false, cond, ◌≢◌, ◌⊎◌, List, [], ◌∷◌, length, get_or, set, sym, ap, ◌∙◌, subst, ap₂, inl, inr, add-one, arith, length-set}
 use Rattle.std.proofs.lemmas.List.{get_or-set_same, get_or-set_other}
 use Rattle.std.proofs.lemmas.Nat.{mul-add-lt}
 use Rattle.std.proofs.lemmas.Bool.{cases_eq, cases_lt}
-use Rattle.pricing.specs.Tallies.{Ops, Laws, NotAbove}
-use Rattle.divisions.specs.Divisions.{highest_least, divided}
+use Rattle.pricing.specs.Tallies.{Ops, Laws}
+use Rattle.divisions.specs.Divisions.{highest_least}
 use Rattle.drawing.specs.Cells.{Turned, Needed, Cell, Tried, Searched, ending_at}
 use Rattle.divisions.specs.Recurrence.{best_division, least_tally}
 use Rattle.divisions.proofs.Order.{least_in, kept_lowest}

@@ -1,6 +1,6 @@
 -- From the filled cells to what a drawing promises.
-use Rattle.std.proofs.Common.{◌≡◌, ℕ, zero, suc, ◌+◌, ◌-◌, ◌*◌, ◌<◌, ◌≤◌, min, Bool, true, false, cond, ◌⊎◌, List, [], ◌∷◌, length, get_or, sym, refl, ap, ◌∙◌, subst, ap₂, inl, inr, suc-mul, arith}
-use Rattle.counting.specs.Ledger.{Ledger, counted_levels, total_of}
+use Rattle.std.proofs.Common.{◌≡◌, ℕ, zero, suc, ◌+◌, ◌-◌, ◌*◌, ◌<◌, ◌≤◌, List, ◌∷◌, get_or, sym, refl, ap, ◌∙◌, subst, ap₂, inr, suc-mul, arith}
+use Rattle.counting.specs.Ledger.{Ledger, counted_levels}
 use Rattle.pricing.specs.Tallies.{Ops, Laws}
 use Rattle.pricing.specs.Errors.{Fair, SameErrors}
 use Rattle.pricing.specs.Prices.{map_tally}
@@ -9,8 +9,8 @@ use Rattle.tables.proofs.Rows.{bin_inside}
 use Rattle.counting.specs.Sound.{Sound}
 use Rattle.divisions.specs.Divisions.{price, divided, bins_of, BestOf, tally_of, Divides}
 use Rattle.divisions.specs.Figures.{priced_of, compared_of}
-use Rattle.divisions.specs.Tables.{table_for, table_to, table_by}
-use Rattle.drawing.specs.Cells.{Needed, Cell, Searched}
+use Rattle.divisions.specs.Tables.{table_for, table_by}
+use Rattle.drawing.specs.Cells.{Cell, Searched}
 use Rattle.divisions.specs.Recurrence.{best_division, least_tally}
 use Rattle.drawing.specs.Drawings.{Drew, DrawnTotalsArePlain}
 use Rattle.pricing.specs.Kinds.{total_ops}

@@ -1,11 +1,11 @@
 -- The links followed from the last bin to the first: the bins that are left, and those already written.
-use Rattle.std.proofs.Common.{◌≡◌, ℕ, zero, suc, ◌+◌, ◌-◌, ◌*◌, ◌<◌, ◌≤◌, ◌⊎◌, List, [], ◌∷◌, ◌++◌, map, length, get_or, drop, set, sym, refl, ap, ◌∙◌, subst, ap₂, inl, inr, arith, length-set}
+use Rattle.std.proofs.Common.{◌≡◌, ℕ, ◌+◌, ◌-◌, ◌*◌, ◌<◌, ◌≤◌, ◌⊎◌, List, [], ◌∷◌, ◌++◌, map, length, get_or, drop, set, sym, refl, ap, ◌∙◌, subst, ap₂, inl, inr, arith, length-set}
 use Rattle.std.proofs.lemmas.List.{append_assoc, append-nil, map_push, drop-set, drop_all, set_at, length_push, length-map}
 use Rattle.counting.specs.Ledger.{Ledger, counted_levels}
 use Rattle.pricing.specs.Tallies.{Ops, Laws}
 use Rattle.counting.specs.Sound.{Sound}
 use Rattle.divisions.specs.Divisions.{level_at, representative, price, Divides}
-use Rattle.drawing.specs.Cells.{Needed, Cell, Searched}
+use Rattle.drawing.specs.Cells.{Cell, Searched}
 use Rattle.divisions.specs.Recurrence.{best_division}
 use Rattle.divisions.specs.Tables.{bins_below, table_to, table_by, table_for}
 use Rattle.divisions.proofs.Divisions.{best_divides, best_division_best}

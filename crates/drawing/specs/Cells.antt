@@ -1,6 +1,6 @@
 -- How the best division is found, for the private functions that fill cells: the public promises do not rest on this file.
 -- A cell holds a tally, and beside it, in a list of links, the place at which the last run starts.
-use Rattle.std.specs.Prelude.{◌≡◌, ℕ, zero, suc, ◌+◌, ◌-◌, ◌*◌, ◌<◌, ◌≤◌, max, Bool, cond, ◌⊎◌, List, [], ◌∷◌, length, slice_index, slice_index_or}
+use Rattle.std.specs.Prelude.{◌≡◌, ℕ, ◌+◌, ◌-◌, ◌*◌, ◌<◌, ◌≤◌, max, Bool, cond, ◌⊎◌, List, ◌∷◌, length, slice_index, slice_index_or}
 use Rattle.counting.specs.Ledger.{Ledger, counted_levels}
 use Rattle.pricing.specs.Tallies.{Ops}
 use Rattle.divisions.specs.Divisions.{highest_least, level_at}

@@ -1,11 +1,11 @@
 -- Rows cut out of a list, the ledger after one row more, and outputs with one cell more.
-use Rattle.std.proofs.Common.{◌≡◌, ℕ, ◌+◌, ◌-◌, ◌*◌, ◌<◌, ◌≤◌, min, List, [], ◌∷◌, ◌++◌, map, length, get_or, take, drop, set, sym, refl, ap, ◌∙◌, subst, ap₂, inl, inr, arith}
+use Rattle.std.proofs.Common.{◌≡◌, ℕ, ◌+◌, ◌-◌, ◌<◌, ◌≤◌, min, List, [], ◌∷◌, ◌++◌, map, length, get_or, take, drop, set, sym, refl, ap, ◌∙◌, ap₂, inl, inr, arith}
 use Rattle.std.specs.List.{range_with_len}
 use Rattle.std.proofs.lemmas.List.FromFn.{map-range_with_len_more}
 use Rattle.std.proofs.lemmas.List.{drop_all, take_all, length-drop, get_or-set_same, get_or-set_other}
 use Rattle.std.proofs.lemmas.Bool.{cases_lt, cases_eq}
 use Rattle.counting.specs.Ledger.{Ledger, Asked, opened, counted, step, after_from, after}
-use Rattle.ffi.specs.Scans.{row_of, calls, scanned, Filled}
+use Rattle.ffi.specs.Scans.{row_of, scanned, Filled}
 
 -- what is cut out of a list between two places that may lie past its end
 pub cut_is : {X : Type 0} (xs : List X) (n w from to : ℕ) → from ≡ min n (length xs) → to ≡ min (n + w) (length xs) → take (to - from) (drop from xs) ≡ take w (drop n xs)

@@ -1,5 +1,5 @@
 -- A scan as one list of pixels whose rows stand one after the other: its rows, its ledger, and what a call on each row writes.
-use Rattle.std.specs.Prelude.{◌≡◌, ℕ, ◌+◌, ◌*◌, ◌<◌, ◌≤◌, min, List, ◌∷◌, map, length, take, drop, Some, None, Option, ◌≢◌, slice_index}
+use Rattle.std.specs.Prelude.{◌≡◌, ℕ, ◌*◌, ◌<◌, ◌≤◌, min, List, ◌∷◌, map, length, take, drop, None, Option, ◌≢◌, slice_index}
 use Rattle.std.specs.List.{range_with_len}
 use Rattle.counting.specs.Ledger.{Ledger, Asked, opened, counted, after}
 use Rattle.counting.specs.Outputs.{Row}

@@ -1,5 +1,5 @@
 -- What it costs to show the pixels of a range of levels as one level, and the price of a range: the least such cost.
-use Rattle.std.specs.Prelude.{◌≡◌, ℕ, zero, suc, ◌+◌, ◌-◌, ◌<◌, ◌≤◌, Bool, cond, ◌⊎◌, Some, None, Option, ◌≢◌, nat_lt}
+use Rattle.std.specs.Prelude.{◌≡◌, ℕ, zero, suc, ◌+◌, ◌-◌, ◌<◌, ◌≤◌, cond, ◌⊎◌, Some, None, Option, ◌≢◌, nat_lt}
 use Rattle.counting.specs.Ledger.{Ledger, pixels_at}
 use Rattle.pricing.specs.Tallies.{Ops, NotAbove}
 

@@ -9,7 +9,7 @@ use Rattle.tables.specs.Table.{Table, bound_of, representative_of}
 use Rattle.tablefile.specs.Numbers.{word, long, word_at, long_at}
 use Rattle.tablefile.specs.Bytes.{counted_of, level_bytes, levels_bytes, bin_bytes, bins_bytes, bytes_of}
 use Rattle.tablefile.specs.Fields.{levels_in, counted_in, level_place, level_in, pixels_in, bins_place, bins_in, bin_place, bound_in, representative_in}
-use Rattle.tablefile.specs.Faults.{first, first_of, edition_fault, level_fault, bin_fault, rest_fault, first_fault}
+use Rattle.tablefile.specs.Faults.{first_of, edition_fault, level_fault, bin_fault, rest_fault, first_fault}
 use Rattle.tablefile.specs.Parts.{ledger_in, table_in}
 use Rattle.tablefile.specs.Theorems.{File}
 use Rattle.tablefile.proofs.Faults.{none_some, first_none, part_none, edition_cut, edition_other, levels_none, bins_none, rest_some}

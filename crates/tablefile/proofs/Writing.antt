@@ -3,14 +3,12 @@ use Rattle.std.proofs.Common.{◌≡◌, ℕ, zero, suc, ◌+◌, ◌*◌, ◌<�
 use lib.Seq.{paste}
 use Rattle.std.specs.List.{range_with_len, flat_map}
 use Rattle.std.proofs.lemmas.List.Edits.{paste_none, paste-paste, paste_all}
-use Rattle.std.proofs.lemmas.List.{append_assoc, flat_map_more, length_push, length-take-le}
+use Rattle.std.proofs.lemmas.List.{append_assoc, flat_map_more, length_push}
 use Rattle.std.proofs.lemmas.List.Sums.{count_by_more_yes, count_by_more_no}
 use Rattle.std.proofs.lemmas.List.FromFn.{length-range_with_len}
 use Rattle.std.proofs.lemmas.Bool.{cases_Bool, lt-ltb, le-ltb, eq-eqb}
 use Rattle.counting.specs.Ledger.{Ledger, pixels_at, counted_levels}
-use Rattle.counting.specs.Meaning.{ledger_of}
 use Rattle.counting.specs.Outputs.{over}
-use Rattle.counting.specs.declared.histogram.Histogram.{Histogram}
 use Rattle.tables.specs.Table.{Table}
 use Rattle.tablefile.specs.Bytes.{head_bytes, counted_below, counted_of, level_bytes, levels_bytes, bin_bytes, bins_bytes, bytes_of}
 use Rattle.tablefile.specs.Numbers.{word}

@@ -1,8 +1,6 @@
-use Rattle.std.proofs.Common.{◌≡◌, ℕ, ◌-◌, ◌*◌, ◌<◌, ◌≤◌, min, length, sym, ap, ◌∙◌, arith}
+use Rattle.std.proofs.Common.{◌≡◌, ℕ, ◌-◌, ◌*◌, ◌<◌, min, length, sym, ap, ◌∙◌, arith}
 use Rattle.std.proofs.lemmas.List.{get_or_read}
-use Rattle.counting.specs.Ledger.{counted_levels}
 use Rattle.counting.specs.Meaning.{ledger_of}
-use Rattle.pricing.specs.Errors.{SameErrors}
 use Rattle.divisions.specs.Divisions.{bins_of}
 use Rattle.divisions.specs.Figures.{candidates, path_steps}
 use Rattle.counting.proofs.Ledgers.{sound_histogram}

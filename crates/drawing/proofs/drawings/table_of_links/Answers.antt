@@ -1,4 +1,4 @@
-use Rattle.std.proofs.Common.{ap, ◌∙◌, arith}
+use Rattle.std.proofs.Common.{◌∙◌, arith}
 use Rattle.counting.specs.Meaning.{ledger_of}
 use Rattle.counting.proofs.Ledgers.{sound_histogram}
 use Rattle.drawing.proofs.Tracing.{traced_table, traced_lawful}

@@ -1,4 +1,4 @@
-use Rattle.std.proofs.Common.{◌≡◌, ℕ, sym, ap, ◌∙◌, arith}
+use Rattle.std.proofs.Common.{◌≡◌, sym, ap, ◌∙◌, arith}
 use Rattle.counting.specs.Ledger.{counted_levels}
 use Rattle.counting.specs.Meaning.{ledger_of}
 use Rattle.counting.proofs.Ledgers.{sound_histogram}

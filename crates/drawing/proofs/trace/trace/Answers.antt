@@ -1,4 +1,4 @@
-use Rattle.std.proofs.Common.{◌≡◌, ℕ, ◌+◌, ◌-◌, ◌*◌, ◌<◌, ◌≤◌, get_or, refl, ap, ◌∙◌, arith}
+use Rattle.std.proofs.Common.{◌≡◌, ℕ, ◌+◌, ◌-◌, ◌*◌, get_or, refl, ap, ◌∙◌, arith}
 use Rattle.counting.specs.Meaning.{ledger_of}
 use Rattle.divisions.specs.Divisions.{representative}
 use Rattle.counting.proofs.Ledgers.{sound_histogram}

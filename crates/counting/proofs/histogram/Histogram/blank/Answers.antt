@@ -1,5 +1,4 @@
 use Rattle.std.proofs.Common.{ℕ, List, sym, refl, ap, arith}
-use Rattle.counting.specs.Ledger.{Ledger}
 use Rattle.std.proofs.lemmas.List.{take-replicate}
 use Rattle.counting.proofs.Rows.{zeros_sum, zeros_at}
 use Rattle.counting.proofs.histogram.Histogram.blank.Goals as goal

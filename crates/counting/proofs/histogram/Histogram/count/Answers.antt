@@ -1,4 +1,4 @@
-use Rattle.std.proofs.Common.{◌≡◌, ◌+◌, ◌≤◌, length, sum, sym, refl, ◌∙◌, arith}
+use Rattle.std.proofs.Common.{◌≡◌, ◌+◌, length, sum, refl, arith}
 use Rattle.counting.specs.Ledger.{counted}
 use Rattle.counting.specs.Meaning.{ledger_of}
 use Rattle.counting.proofs.Steps.{counted_accepted, row_fits, all_pixels, new_past, new_balance, new_levels, row_ledger, row_answer}

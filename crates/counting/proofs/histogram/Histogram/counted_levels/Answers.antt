@@ -1,4 +1,4 @@
-use Rattle.std.proofs.Common.{ltb, sym, ◌∙◌, arith}
+use Rattle.std.proofs.Common.{ltb, arith}
 use Rattle.std.proofs.lemmas.Bool.{lt-ltb, le-ltb}
 use Rattle.std.proofs.lemmas.List.Sums.{count_by_more_yes, count_by_more_no}
 use Rattle.counting.proofs.histogram.Histogram.counted_levels.Goals as goal

@@ -1,4 +1,4 @@
-use Rattle.std.proofs.Common.{◌≡◌, ℕ, ◌≤◌, ltb, take, count_by}
+use Rattle.std.proofs.Common.{◌≡◌, ◌≤◌, ltb, take, count_by}
 use Rattle.counting.proofs.histogram.Histogram.counted_levels.Given as goal
 
 abbrev pub invariant-loop-level : goal.invariant-loop-level

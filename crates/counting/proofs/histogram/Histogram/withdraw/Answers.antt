@@ -1,4 +1,4 @@
-use Rattle.std.proofs.Common.{◌≡◌, ◌+◌, ◌-◌, ◌≤◌, length, sum, sym, refl, ap, ◌∙◌, arith}
+use Rattle.std.proofs.Common.{◌≡◌, ◌-◌, length, sum, sym, refl, ap, arith}
 use Rattle.counting.specs.Ledger.{Ledger, Told, withdrawn}
 use Rattle.counting.specs.Meaning.{ledger_of}
 use Rattle.counting.proofs.Steps.{row_fits, all_pixels, short_level, none_short, new_past, new_balance, new_levels, row_ledger, row_answer}

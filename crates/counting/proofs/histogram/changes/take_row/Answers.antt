@@ -1,4 +1,4 @@
-use Rattle.std.proofs.Common.{◌≡◌, ℕ, ◌+◌, ◌-◌, List, length, get_or, take, IfNone, sum, sym, refl, ap, ◌∙◌, subst, arith, take_all}
+use Rattle.std.proofs.Common.{◌≡◌, ℕ, ◌+◌, ◌-◌, List, length, get_or, IfNone, sum, ap, ◌∙◌, subst, arith, take_all}
 use Rattle.counting.specs.Ledger.{occurs}
 use Rattle.counting.specs.Short.{LowestShort}
 use Rattle.counting.proofs.Shortage.{taken_one, taken_none}

@@ -1,5 +1,5 @@
 use Rattle.std.proofs.Common.{◌≡◌, ℕ, List, length, take, sym, ap, ◌∙◌, ap₂, arith}
-use Rattle.tables.specs.Table.{Table, given}
+use Rattle.tables.specs.Table.{given}
 use Rattle.counting.proofs.Rows.{front_is}
 use Rattle.tables.proofs.Bins.{long_rising, long_ends, long_greys, long_lowest}
 use Rattle.tables.proofs.table.LevelTable.of.Goals as goal
