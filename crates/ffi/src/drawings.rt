@@ -64,8 +64,7 @@ fn tell(
 
 // Draws a table of at most `most` bins from the first `rows` rows, with the centroid pricer, and writes its bounds and
 // representatives. The work lists' old contents do not matter.
-#[unsafe(no_mangle)]
-pub extern "C" fn slip_draw(
+pub fn slip_draw(
     levels: u16,
     rows: usize,
     width: usize,
@@ -87,8 +86,7 @@ pub extern "C" fn slip_draw(
 }
 
 // The same with the trial pricer.
-#[unsafe(no_mangle)]
-pub extern "C" fn slip_draw_by_trial(
+pub fn slip_draw_by_trial(
     levels: u16,
     rows: usize,
     width: usize,

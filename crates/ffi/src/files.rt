@@ -26,13 +26,7 @@ fn written(res: Result<usize, Refusal>) -> usize
 
 // Writes the file of the histogram with these pixels and the table of these bounds and representatives over the first bytes of
 // the output; gives how many. Nothing is written where they make no histogram or no table, or the output is too short.
-#[unsafe(no_mangle)]
-pub extern "C" fn slip_write(
-    at: &[u32],
-    bounds: &[u16],
-    representatives: &[u16],
-    out: &mut [u8],
-) -> usize
+pub fn slip_write(at: &[u32], bounds: &[u16], representatives: &[u16], out: &mut [u8]) -> usize
     ensures lawful { Sound (of_pixels at.now) → Lawful (given (length at.now) bounds.now representatives.now) → Put (write_row (of_pixels at.now) (given (length at.now) bounds.now representatives.now) (length out.old)) (bytes_of (of_pixels at.now) (given (length at.now) bounds.now representatives.now)) result out.old out.new }
     ensures lawless { (Sound (of_pixels at.now) → Lawful (given (length at.now) bounds.now representatives.now) → ⊥) → (result ≡ 0) × (out.new ≡ out.old) }
 {
@@ -47,8 +41,7 @@ pub extern "C" fn slip_write(
 
 // Reads a file, and writes the pixels at each level and each bin's bound and representative; gives 0, or the number of the
 // refusal.
-#[unsafe(no_mangle)]
-pub extern "C" fn slip_read(
+pub fn slip_read(
     file: &[u8],
     at: &mut [u32],
     bounds: &mut [u16],

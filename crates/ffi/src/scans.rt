@@ -21,14 +21,7 @@ pub(crate) fn write_pixels(histogram: &Histogram, at: &mut [u32])
 }
 
 // Counts the first `rows` rows and writes the pixels at each level; gives the total. A refused row alters nothing.
-#[unsafe(no_mangle)]
-pub extern "C" fn slip_count(
-    levels: u16,
-    rows: usize,
-    width: usize,
-    scan: &[u16],
-    at: &mut [u32],
-) -> u32
+pub fn slip_count(levels: u16, rows: usize, width: usize, scan: &[u16], at: &mut [u32]) -> u32
     ensures total { result ≡ total_of (scanned levels rows width scan.now) }
     ensures each { Filled (pixels_at (scanned levels rows width scan.now)) 1024 at.old at.new }
 {
@@ -39,8 +32,7 @@ pub extern "C" fn slip_count(
 
 // Writes the bin of each pixel of the first `rows` rows by the table of these bounds and representatives; gives how many
 // rows were written before one was refused. Nothing is written if the table does not keep the rules.
-#[unsafe(no_mangle)]
-pub extern "C" fn slip_index(
+pub fn slip_index(
     levels: u16,
     bounds: &[u16],
     representatives: &[u16],
@@ -73,8 +65,7 @@ fn index_rows(table: &LevelTable, rows: usize, width: usize, scan: &[u16], out: 
 }
 
 // Writes the grey of each index of the first `rows` rows, as indexing does.
-#[unsafe(no_mangle)]
-pub extern "C" fn slip_show(
+pub fn slip_show(
     levels: u16,
     bounds: &[u16],
     representatives: &[u16],

@@ -1,0 +1,7 @@
+// The static library for C: each function of `ffi` under the same name and with the same clauses. No call requires anything of its
+// arguments.
+#![tactic(auto)]
+
+mod drawings;
+mod files;
+mod scans;
