@@ -1,6 +1,6 @@
 -- Each theorem at the first ledger of the worked cases, by the squared total.
 use Rattle.std.proofs.Common.{◌≡◌, ℕ, ◌+◌, ◌<◌, ◌≤◌, cond, eqb, ltb, List, [], ◌∷◌, get_or, sym, refl, ap, ◌∙◌, arith}
-use Rattle.std.specs.List.{ContainsAt as Has}
+use Rattle.std.specs.List.{ContainsAt}
 use Rattle.std.proofs.lemmas.Bool.{leb-true, cond_both}
 use Rattle.pricing.specs.Kinds.{held, total_ops}
 use Rattle.pricing.specs.Measures.{squared}
@@ -49,7 +49,7 @@ pub scattered : Serves four_levels 2 (λ l. cond (eqb l 3) 7 2) (2 ∷ 7 ∷ [])
 scattered = record {
   few = omega arith;
   levels = (omega arith, (omega arith, tt));
-  each = (λ l _ _. cond_both (eqb l 3) 7 2 (Has (2 ∷ 7 ∷ [])) (λ _. (1, omega arith, λ d. refl)) (λ _. (0, omega arith, λ d. refl)));
+  each = (λ l _ _. cond_both (eqb l 3) 7 2 (ContainsAt (2 ∷ 7 ∷ [])) (λ _. (1, omega arith, λ d. refl)) (λ _. (0, omega arith, λ d. refl)));
 }
 
 one_and_three : Divides (1 ∷ 3 ∷ []) 4

@@ -1,7 +1,7 @@
 -- No way of showing the levels in at most so many greys has a lower tally than the best division, and more bins never raise it.
 use Rattle.std.proofs.Common.{◌≡◌, ℕ, zero, suc, ◌+◌, ◌-◌, ◌^◌, ◌<◌, ◌≤◌, min, Bool, true, ◌⊎◌, List, [], ◌∷◌, length, replicate, sym, refl, ap, ◌∙◌, ap₂, inl, inr, arith}
 use lib.ListN.{length-replicate}
-use Rattle.std.specs.List.{ContainsAt as Has, AllByRecursion as All}
+use Rattle.std.specs.List.{ContainsAt, AllByRecursion}
 use Rattle.std.proofs.ByRecursion.{all-has}
 use Rattle.std.proofs.lemmas.Bool.{cond-true, both_ways, cases_lt, cases_eq, cases_Bool}
 use Rattle.counting.specs.Ledger.{Ledger, counted_levels}
@@ -102,11 +102,11 @@ module _ {C : Type 0} (o : Ops C) (L : Laws o) (error : ℕ → ℕ → ℕ) (F 
   not_above_any runs ks b v h = best_among o L (price o error g) (counted_levels g) (split_le o L error F g S) runs ks (counted_levels g) (omega arith) b v h
 
   -- never beaten
-  pub never_beaten : (most : ℕ) (runs : List ℕ) → BestOf o error g most runs → (f : ℕ → ℕ) (shown : List ℕ) → length shown ≤ most → All (λ r. r < g.levels) shown →
-      ((l : ℕ) → l < g.levels → Counted g l → Has shown (f l)) → NotAbove o (tally_of o error g runs) (map_tally o error g f)
+  pub never_beaten : (most : ℕ) (runs : List ℕ) → BestOf o error g most runs → (f : ℕ → ℕ) (shown : List ℕ) → length shown ≤ most → AllByRecursion (λ r. r < g.levels) shown →
+      ((l : ℕ) → l < g.levels → Counted g l → ContainsAt shown (f l)) → NotAbove o (tally_of o error g runs) (map_tally o error g f)
   never_beaten most runs B f shown few low maps =
       let n = counted_levels g in
-      let has : (k : ℕ) → k < n → Has shown (f (level_at g k)) = (λ k h. maps (level_at g k) (at g S k h).level (at g S k h).counted) in
+      let has : (k : ℕ) → k < n → ContainsAt shown (f (level_at g k)) = (λ k h. maps (level_at g k) (at g S k h).level (at g S k h).counted) in
       let under : (k : ℕ) → k < n → f (level_at g k) < 1024 = (λ k h. omega (arith, all-has (λ r. r < g.levels) shown (f (level_at g k)) low (has k h), S.range.1)) in
       let a = claim (member shown) 1024 (omega arith) n (omega arith) (λ k. error (level_at g k) (f (level_at g k)))
       (λ k h. F.fits _ _ (at g S k h).low (under k h))

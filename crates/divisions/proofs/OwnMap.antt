@@ -1,6 +1,6 @@
 -- A table shows each level by its own run: the tally of the table's map is the tally of the division, each pixel charged once.
 use Rattle.std.proofs.Common.{◌≡◌, ℕ, ◌+◌, ◌-◌, ◌<◌, ◌≤◌, List, [], ◌∷◌, ◌++◌, sym, refl, ap, ◌∙◌, ap₂, append_assoc, one-add, arith}
-use Rattle.std.specs.List.{AllByRecursion as All}
+use Rattle.std.specs.List.{AllByRecursion}
 use Rattle.std.proofs.ByRecursion.{All-append}
 use Rattle.std.proofs.lemmas.Bool.{lt-ltb, le-ltb}
 use Rattle.counting.specs.Ledger.{Ledger, counted_levels}
@@ -19,7 +19,7 @@ abbrev shown_in : ℕ → List (ℕ × ℕ) → ℕ → ℕ
 shown_in levels bins l = shown_by (table_by levels bins) l
 
 -- bins whose bounds lie below a level do not show it
-passes : (levels : ℕ) (xs zs : List (ℕ × ℕ)) (l : ℕ) → All (λ b. b.0 < l) xs → shown_in levels (xs ++ zs) l ≡ shown_in levels zs l
+passes : (levels : ℕ) (xs zs : List (ℕ × ℕ)) (l : ℕ) → AllByRecursion (λ b. b.0 < l) xs → shown_in levels (xs ++ zs) l ≡ shown_in levels zs l
 passes levels [] zs l a = refl
 passes levels (x ∷ xs) zs l a = rw (lt-ltb x.0 l a.0, one-add) (passes levels xs zs l a.1)
 
@@ -29,7 +29,7 @@ shows levels bin zs l h = rw (le-ltb bin.0 l h)
 
 module _ {C : Type 0} (o : Ops C) (error : ℕ → ℕ → ℕ) (g : Ledger) where
   -- the bounds of the first n levels lie below what is above all of these
-  pub bounds_below : (ks : List ℕ) (n l : ℕ) → Divides ks n → ((i : ℕ) → i < n → level_at g i < l) → All (λ b. b.0 < l) (bins_below o error g ks n)
+  pub bounds_below : (ks : List ℕ) (n l : ℕ) → Divides ks n → ((i : ℕ) → i < n → level_at g i < l) → AllByRecursion (λ b. b.0 < l) (bins_below o error g ks n)
   unfolding bins_below
   bounds_below [] n l v h = tt
   bounds_below (k ∷ ks) n l v h =

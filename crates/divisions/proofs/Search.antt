@@ -1,6 +1,6 @@
 -- The first place at which something holds, how many numbers pass a test, and that no more pass than a list has, where the test is to be in it.
 use Rattle.std.proofs.Common.{◌≡◌, ℕ, zero, suc, ◌<◌, ◌≤◌, Bool, true, false, cond, ◌||◌, eqb, ◌⊎◌, List, [], ◌∷◌, length, get_or, sym, refl, inl, inr, arith}
-use Rattle.std.specs.List.{ContainsAt as Has}
+use Rattle.std.specs.List.{ContainsAt}
 use Rattle.std.proofs.lemmas.Bool.{cases_eq, cond_both, eqb-true, true≢false, eq-eqb, ne_eqb, or_left, or_right}
 
 module _ (A B : ℕ → Type 0) where
@@ -20,7 +20,7 @@ abbrev pub member : List ℕ → ℕ → Bool
 member [] r = false
 member (x ∷ xs) r = eqb r x || member xs r
 
-pub member_true : (xs : List ℕ) (r : ℕ) → Has xs r → member xs r ≡ true
+pub member_true : (xs : List ℕ) (r : ℕ) → ContainsAt xs r → member xs r ≡ true
 member_true xs r h = go xs h.0 h.1 (h.2 0)
   where
     go : (xs : List ℕ) (k : ℕ) → k < length xs → get_or xs k 0 ≡ r → member xs r ≡ true

@@ -1,7 +1,7 @@
 -- The table of a division keeps the rules: strictly rising bounds that end at the highest level, and levels for representatives.
 use Rattle.std.proofs.Common.{◌≡◌, ℕ, ◌+◌, ◌-◌, ◌<◌, ◌≤◌, List, [], ◌∷◌, ◌++◌, map, length, get_or, sym, refl, ap, ◌∙◌, inl, inr, arith}
 use lib.ListN.{length-map, get_or-map}
-use Rattle.std.specs.List.{AllByRecursion as All}
+use Rattle.std.specs.List.{AllByRecursion}
 use Rattle.std.proofs.ByRecursion.{All-append, All-get_or}
 use Rattle.std.proofs.lemmas.List.{length_push, get_or_push, get_or_append_left}
 use Rattle.std.proofs.lemmas.Bool.{cases_lt}
@@ -22,7 +22,7 @@ bound_at bins i = (get_or bins i (0, 0)).0
 -- the bounds rise, and the representatives are levels
 record Rising (levels : ℕ) (bins : List (ℕ × ℕ)) : Type 0 where
   pub up : (i : ℕ) → i + 1 < length bins → bound_at bins i < bound_at bins (i + 1)
-  pub shows : All (λ b. b.1 < levels) bins
+  pub shows : AllByRecursion (λ b. b.1 < levels) bins
 
 -- one more bin
 module _ (bins : List (ℕ × ℕ)) (bin : ℕ × ℕ) where
@@ -32,7 +32,7 @@ module _ (bins : List (ℕ × ℕ)) (bin : ℕ × ℕ) where
   last : (i : ℕ) → length bins ≡ i → bound_at (bins ++ bin ∷ []) i ≡ bin.0
   last i e = ap (λ (b : ℕ × ℕ). b.0) (get_or_push bins bin (0, 0) i e)
 
-  push : (levels : ℕ) → Rising levels bins → All (λ b. b.0 < bin.0) bins → bin.1 < levels → Rising levels (bins ++ bin ∷ [])
+  push : (levels : ℕ) → Rising levels bins → AllByRecursion (λ b. b.0 < bin.0) bins → bin.1 < levels → Rising levels (bins ++ bin ∷ [])
   push levels R low level = record {
     up = (λ i h.
         let n = length_push bins bin in

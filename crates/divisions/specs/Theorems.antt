@@ -1,7 +1,7 @@
 -- What is proved of divisions, tables and figures, for every kind of tally that keeps its laws, every error that keeps its own,
 -- and every ledger of 2 to 1,024 levels whose total fits 32 bits.
 use Rattle.std.specs.Prelude.{◌≡◌, ℕ, ◌+◌, ◌-◌, ◌<◌, ◌≤◌, true, List, length}
-use Rattle.std.specs.List.{ContainsAt as Has, AllByRecursion as All}
+use Rattle.std.specs.List.{ContainsAt, AllByRecursion}
 use Rattle.counting.specs.Ledger.{Ledger, counted_levels}
 use Rattle.pricing.specs.Tallies.{Ops, Laws, NotAbove}
 use Rattle.pricing.specs.Errors.{Fair}
@@ -59,8 +59,8 @@ EnoughBinsCostNothing C = (o : Ops C) (error : ℕ → ℕ → ℕ) (g : Ledger)
 -- The map f shows each counted level as one of the levels in `shown`, of which there are at most `most`. It may group the levels or scatter them.
 pub record Serves (g : Ledger) (most : ℕ) (f : ℕ → ℕ) (shown : List ℕ) : Type 0 where
   pub few : length shown ≤ most
-  pub levels : All (λ r. r < g.levels) shown
-  pub each : (l : ℕ) → l < g.levels → Counted g l → Has shown (f l)
+  pub levels : AllByRecursion (λ r. r < g.levels) shown
+  pub each : (l : ℕ) → l < g.levels → Counted g l → ContainsAt shown (f l)
 
 -- Never beaten: no map to at most `most` levels has a lower tally than the best division.
 abbrev pub NeverBeaten : Type 0 → Type 0

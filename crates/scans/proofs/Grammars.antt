@@ -3,7 +3,7 @@ use Rattle.std.proofs.Common.{◌≡◌, ℕ, ◌+◌, ◌<◌, ◌≤◌, true,
 use Rattle.std.proofs.lemmas.List.{append_assoc, drop_at, take_at, length-append}
 use Rattle.std.proofs.lemmas.Bool.Decides.{nat_tests}
 use Rattle.std.specs.Char.{is_ascii_digit}
-use Rattle.std.specs.List.{prefix_len, AllByRecursion as All}
+use Rattle.std.specs.List.{prefix_len, AllByRecursion}
 use Rattle.scans.specs.declared.pgm.Field.{Field}
 use Rattle.scans.specs.declared.pgm.Field.TheVariants.{Width, Height, Maximum}
 use Rattle.scans.specs.Grammar.{Gap, nothing, space, comment, Number, File}
@@ -24,7 +24,7 @@ white_no_hash : (b : ℕ) → white b ≡ true → eqb b 35 ≡ false
 white_no_hash b e = grind (arith, nat_tests)
 
 -- in a comment, up to the end of its line
-in_comment : (text : List ℕ) (b : ℕ) (rest : List ℕ) → All (λ c. line_end c ≡ false) text → line_end b ≡ true → gap_from true (text ++ (b ∷ rest)) ≡ length text + (1 + gap_from false rest)
+in_comment : (text : List ℕ) (b : ℕ) (rest : List ℕ) → AllByRecursion (λ c. line_end c ≡ false) text → line_end b ≡ true → gap_from true (text ++ (b ∷ rest)) ≡ length text + (1 + gap_from false rest)
 in_comment [] b rest none e = rw e (omega arith)
 in_comment (c ∷ text) b rest none e = rw none.0 (let more = in_comment text b rest none.1 e in omega arith)
 
@@ -46,11 +46,11 @@ gap_first front rest nothing h = absurd (omega arith)
 gap_first front rest (space b bs p g) h = white_no_digit b p
 gap_first front rest (comment text b bs none p g) h = refl
 
-digits_first : (text rest : List ℕ) → All (λ d. is_ascii_digit d ≡ true) text → 0 < length text → is_ascii_digit (get_or (text ++ rest) 0 0) ≡ true
+digits_first : (text rest : List ℕ) → AllByRecursion (λ d. is_ascii_digit d ≡ true) text → 0 < length text → is_ascii_digit (get_or (text ++ rest) 0 0) ≡ true
 digits_first [] rest all h = absurd (omega arith)
 digits_first (d ∷ text) rest all h = all.0
 
-leading_length : (text rest : List ℕ) → All (λ d. is_ascii_digit d ≡ true) text → is_ascii_digit (get_or rest 0 0) ≡ false → prefix_len is_ascii_digit (text ++ rest) ≡ length text
+leading_length : (text rest : List ℕ) → AllByRecursion (λ d. is_ascii_digit d ≡ true) text → is_ascii_digit (get_or rest 0 0) ≡ false → prefix_len is_ascii_digit (text ++ rest) ≡ length text
 leading_length [] [] all e = refl
 leading_length [] (b ∷ rest) all e = rw e
 leading_length (d ∷ text) rest all e = rw all.0 (let more = leading_length text rest all.1 e in omega arith)

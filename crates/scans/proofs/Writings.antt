@@ -4,7 +4,7 @@ use Rattle.std.proofs.lemmas.List.{append_assoc, take-append-drop, length-drop, 
 use Rattle.std.proofs.lemmas.List.Sums.{prefix_len-le-length}
 use Rattle.std.proofs.lemmas.Bool.{and_parts, eqb-false, eqb-true, ltb-false, not-false, or_parts}
 use Rattle.std.specs.Char.{is_ascii_digit}
-use Rattle.std.specs.List.{prefix_len, AllByRecursion as All}
+use Rattle.std.specs.List.{prefix_len, AllByRecursion}
 use Rattle.scans.specs.declared.pgm.Field.{Field}
 use Rattle.scans.specs.declared.pgm.Field.TheVariants.{Width, Height, Maximum}
 use Rattle.scans.specs.declared.pgm.Fault.TheVariants.{NotP5, NumberMissing, NumberTooLarge, NoSeparator}
@@ -17,7 +17,7 @@ record Commented (cs : List ℕ) : Type 0 where
   text : List ℕ
   end : ℕ
   more : List ℕ
-  unended : All (λ c. line_end c ≡ false) text
+  unended : AllByRecursion (λ c. line_end c ≡ false) text
   ended : line_end end ≡ true
   is_gap : Gap more
   bytes : cs ≡ text ++ (end ∷ more)
@@ -53,11 +53,11 @@ part_written true (b ∷ bs) h =
     rw one-add (longer b (take (gap_from (not (line_end b)) bs) bs) (line_end b) refl rest)
 part_written false (b ∷ bs) h = fronted b bs h (part_written true bs) (part_written false bs) (eqb b 35) refl (white b) refl
 
-digits_more : (b : ℕ) (bs : List ℕ) (t : Bool) → is_ascii_digit b ≡ t → All (λ d. is_ascii_digit d ≡ true) (digits bs) → All (λ d. is_ascii_digit d ≡ true) (digits (b ∷ bs))
+digits_more : (b : ℕ) (bs : List ℕ) (t : Bool) → is_ascii_digit b ≡ t → AllByRecursion (λ d. is_ascii_digit d ≡ true) (digits bs) → AllByRecursion (λ d. is_ascii_digit d ≡ true) (digits (b ∷ bs))
 digits_more b bs true e all = rw (e, one-add) (e, all)
 digits_more b bs false e all = rw e tt
 
-all_digits : (bs : List ℕ) → All (λ d. is_ascii_digit d ≡ true) (digits bs)
+all_digits : (bs : List ℕ) → AllByRecursion (λ d. is_ascii_digit d ≡ true) (digits bs)
 all_digits [] = tt
 all_digits (b ∷ bs) = digits_more b bs (is_ascii_digit b) refl (all_digits bs)
 

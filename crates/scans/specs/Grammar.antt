@@ -1,7 +1,7 @@
 -- How a grey scan is written in the binary form of the PGM format, as a grammar: which bytes are a file of which scan.
 use Rattle.std.specs.Prelude.{◌≡◌, ℕ, ◌*◌, ◌<◌, ◌≤◌, true, false, List, [], ◌∷◌, ◌++◌, length, IfOk, Ok, Err, vec_items, Result}
 use Rattle.std.specs.Char.{is_ascii_digit}
-use Rattle.std.specs.List.{AllByRecursion as All}
+use Rattle.std.specs.List.{AllByRecursion}
 use Rattle.std.specs.declared.alloc.AllocError.{AllocError}
 use Rattle.scans.specs.declared.pgm.Fault.{Fault}
 use Rattle.scans.specs.declared.scan.Scan.{Scan}
@@ -12,7 +12,7 @@ use Rattle.scans.specs.Raster.{sample_size, pixels_of, within}
 pub data Gap : List ℕ → Type 0 where
   nothing : Gap []
   space : (b : ℕ) (bs : List ℕ) → white b ≡ true → Gap bs → Gap (b ∷ bs)
-  comment : (text : List ℕ) (b : ℕ) (bs : List ℕ) → All (λ c. line_end c ≡ false) text → line_end b ≡ true → Gap bs → Gap (35 ∷ (text ++ (b ∷ bs)))
+  comment : (text : List ℕ) (b : ℕ) (bs : List ℕ) → AllByRecursion (λ c. line_end c ≡ false) text → line_end b ≡ true → Gap bs → Gap (35 ∷ (text ++ (b ∷ bs)))
 
 -- A number of the header: a gap of at least one byte, and at least one digit.
 pub record Number (n : ℕ) (bs : List ℕ) : Type 0 where
@@ -20,7 +20,7 @@ pub record Number (n : ℕ) (bs : List ℕ) : Type 0 where
   pub text : List ℕ
   pub is_gap : Gap front
   pub apart : 0 < length front
-  pub are_digits : All (λ d. is_ascii_digit d ≡ true) text
+  pub are_digits : AllByRecursion (λ d. is_ascii_digit d ≡ true) text
   pub some : 0 < length text
   pub value : value_from 0 text ≡ n
   pub bytes : bs ≡ front ++ text

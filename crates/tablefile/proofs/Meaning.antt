@@ -1,6 +1,6 @@
 -- A file and its pair determine each other.
 use Rattle.std.proofs.Common.{◌≡◌, ℕ, suc, ◌<◌, ◌≤◌, ltb, List, [], ◌∷◌, ◌++◌, length, get_or, None, sym, refl, ap, ◌∙◌, subst, inl, inr, zero-add, arith}
-use Rattle.std.specs.List.{range_with_len, flat_map, AllByRecursion as All}
+use Rattle.std.specs.List.{range_with_len, flat_map, AllByRecursion}
 use Rattle.std.proofs.ByRecursion.{All-get_or, All-append}
 use Rattle.std.proofs.lemmas.List.{get_or_past}
 use Rattle.std.proofs.lemmas.List.Sums.{get_or-le-sum_by, length-filter, count_by-le-length}
@@ -24,13 +24,13 @@ use Rattle.tablefile.proofs.Pairs.{bound_below, pair_listed, pair_faultless}
 abbrev Byte : ℕ → Type 0
 Byte b = b < 256
 
-word_bytes : (n : ℕ) → n < 65536 → All Byte (word n)
+word_bytes : (n : ℕ) → n < 65536 → AllByRecursion Byte (word n)
 word_bytes n h = (omega arith, (omega arith, tt))
 
-long_bytes : (n : ℕ) → n ≤ 4294967295 → All Byte (long n)
+long_bytes : (n : ℕ) → n ≤ 4294967295 → AllByRecursion Byte (long n)
 long_bytes n h = (omega arith, (omega arith, (omega arith, (omega arith, tt))))
 
-joined_bytes : (f : ℕ → List ℕ) (xs : List ℕ) → ((i : ℕ) → i < length xs → All Byte (f (get_or xs i 0))) → All Byte (flat_map f xs)
+joined_bytes : (f : ℕ → List ℕ) (xs : List ℕ) → ((i : ℕ) → i < length xs → AllByRecursion Byte (f (get_or xs i 0))) → AllByRecursion Byte (flat_map f xs)
 joined_bytes f [] each = tt
 joined_bytes f (x ∷ xs) each = All-append Byte (f x) (flat_map f xs) (each 0 (omega arith)) (joined_bytes f xs (λ i h. each (suc i) (omega arith)))
 
@@ -43,33 +43,33 @@ module _ (g : Ledger) (t : Table) (pair : Pair g t) where
   few_levels =
       omega (arith, length-filter (λ l. ltb 0 (pixels_at g l)) (range_with_len 0 g.levels), count_by-le-length (λ l. ltb 0 (pixels_at g l)) (range_with_len 0 g.levels), length-range_with_len 0 g.levels)
 
-  level_fits : (i : ℕ) → i < length (counted_of g) → All Byte (level_bytes g (get_or (counted_of g) i 0))
+  level_fits : (i : ℕ) → i < length (counted_of g) → AllByRecursion Byte (level_bytes g (get_or (counted_of g) i 0))
   level_fits i h =
       let l = get_or (counted_of g) i 0 in
       let below = (kept_keeps (λ l. ltb 0 (pixels_at g l)) g.levels).below i h in
       let part = get_or-le-sum_by (λ x. x) g.at l 0 (omega (arith, pair.histogram.width)) in
       All-append Byte (word l) (long (pixels_at g l)) (word_bytes l (omega (arith, levels_fit))) (long_bytes (pixels_at g l) (omega (arith, pair.histogram.fits)))
 
-  bin_fits : (i : ℕ) → i < length t.bounds → All Byte (bin_bytes t i)
+  bin_fits : (i : ℕ) → i < length t.bounds → AllByRecursion Byte (bin_bytes t i)
   bin_fits i h =
       let law = pair.table in
       let bound = bound_below t law i h in
       let grey = law.greys i (omega (arith, law.paired)) in
       All-append Byte (word (bound_of t i)) (word (representative_of t i)) (word_bytes (bound_of t i) (omega (arith, law.range))) (word_bytes (representative_of t i) (omega (arith, law.range)))
 
-  pair_bytes : All Byte (bytes_of g t)
+  pair_bytes : AllByRecursion Byte (bytes_of g t)
   unfolding bytes_of
   pair_bytes =
-      let head : All Byte (head_bytes g.levels) = (omega arith, word_bytes g.levels (omega (arith, levels_fit))) in
-      let levels : All Byte (levels_bytes g) =
+      let head : AllByRecursion Byte (head_bytes g.levels) = (omega arith, word_bytes g.levels (omega (arith, levels_fit))) in
+      let levels : AllByRecursion Byte (levels_bytes g) =
       All-append Byte (word (length (counted_of g))) (flat_map (level_bytes g) (counted_of g)) (word_bytes (length (counted_of g)) (omega (arith, few_levels, levels_fit)))
       (joined_bytes (level_bytes g) (counted_of g) level_fits) in
       let many = length-range_with_len 0 (length t.bounds) in
-      let bins : All Byte (bins_bytes t) =
+      let bins : AllByRecursion Byte (bins_bytes t) =
       All-append Byte (word (length t.bounds)) (flat_map (bin_bytes t) (range_with_len 0 (length t.bounds))) (word_bytes (length t.bounds) (omega (arith, pair.table.few)))
       (joined_bytes (bin_bytes t) (range_with_len 0 (length t.bounds))
       (λ i h. let at : i ≡ get_or (range_with_len 0 (length t.bounds)) i 0 = sym (get_or-range_with_len 0 (length t.bounds) i 0 (omega arith) ∙ zero-add i) in
-      subst (λ (n : ℕ). All Byte (bin_bytes t n)) at (bin_fits i (omega arith)))) in
+      subst (λ (n : ℕ). AllByRecursion Byte (bin_bytes t n)) at (bin_fits i (omega arith)))) in
       All-append Byte (head_bytes g.levels) (levels_bytes g ++ bins_bytes t) head (All-append Byte (levels_bytes g) (bins_bytes t) levels bins)
 
   pub pair_file : File (bytes_of g t)
