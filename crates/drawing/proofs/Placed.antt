@@ -158,8 +158,8 @@ module _ {C : Type 0} (o : Ops C) (L : Laws o) (cost : ℕ → ℕ → C) (c b n
   }
 
 -- before the first end nothing is owed
-pub nothing_filled : {C : Type 0} (o : Ops C) (cost : ℕ → ℕ → C) (c b : ℕ) (ts : List C) (ls : List ℕ) → c * b ≤ length ts → c * b ≤ length ls → Searched o cost c b 1 1 ts ls
-nothing_filled o cost c b ts ls t l = record {
+pub nothing_searched : {C : Type 0} (o : Ops C) (cost : ℕ → ℕ → C) (c b : ℕ) (ts : List C) (ls : List ℕ) → c * b ≤ length ts → c * b ≤ length ls → Searched o cost c b 1 1 ts ls
+nothing_searched o cost c b ts ls t l = record {
   room = (t, l);
   filled = (λ m k lt need. absurd (omega (arith, need.under)));
   first = (λ e. absurd (omega arith));

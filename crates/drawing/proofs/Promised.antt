@@ -47,8 +47,8 @@ module _ {C : Type 0} (o : Ops C) (L : Laws o) (e e' : ℕ → ℕ → ℕ) (sam
     high = c.high;
   }
 
-  pub filled_same : (c b : ℕ) (ts : List C) (ls : List ℕ) → c ≡ counted_levels g → Searched o (price o e g) c b (c + 1) (c + 1) ts ls → Searched o (price o e' g) c b (c + 1) (c + 1) ts ls
-  filled_same c b ts ls all s = record {
+  pub searched_same : (c b : ℕ) (ts : List C) (ls : List ℕ) → c ≡ counted_levels g → Searched o (price o e g) c b (c + 1) (c + 1) ts ls → Searched o (price o e' g) c b (c + 1) (c + 1) ts ls
+  searched_same c b ts ls all s = record {
     room = s.room;
     filled = (λ m k lt need. cell_same m k _ _ need.under (omega arith) (s.filled m k lt need));
     first = (λ z. absurd (omega arith));

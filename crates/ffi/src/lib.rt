@@ -1,5 +1,5 @@
-// What C can call, by way of the static library `ffi_c`. A scan is one list of pixels whose rows of `width` pixels stand one after the other; no call requires
-// anything of its arguments.
+// What C can call, by way of the static library `ffi_c`. A scan is one list of pixels whose rows of `width` pixels stand one after
+// the other; no call requires anything of its arguments.
 #![tactic(auto)]
 
 mod drawings;

@@ -1,5 +1,5 @@
 // What is wrong with a file: the number reader's fault inside a section's, and that inside the file's.
-// `converts` says that a fault is the same row of the refusal table inside another.
+// `from_gives` says that a fault is the same row of the refusal table inside another.
 ghost use Rattle.std.specs.Prelude.{◌≡◌};
 ghost use Rattle.counting.specs.Outputs.{row_of};
 ghost use Rattle.tablefile.specs.Rows.{number_row, head_row, levels_row, bins_row, file_row};

@@ -5,7 +5,7 @@ use Rattle.divisions.specs.Divisions.{bins_of}
 use Rattle.divisions.specs.Figures.{candidates, path_steps}
 use Rattle.counting.proofs.Ledgers.{sound_histogram}
 use Rattle.drawing.proofs.Placed.{row_below}
-use Rattle.drawing.proofs.Promised.{filled_same, table_for_same, last_tally, drew}
+use Rattle.drawing.proofs.Promised.{searched_same, table_for_same, last_tally, drew}
 use Rattle.drawing.proofs.drawings.draw_up.Goals as goal
 
 pub overflow_sub-tally : goal.overflow_sub-tally
@@ -23,7 +23,7 @@ table_of_links-requires g c =
     record {
       shape = (omega (arith, c.bins.ensures, number), omega (arith, c.bins.ensures), omega (arith, c.bins.ensures), number);
       lists = c.list_levels-counted.ensures.lists;
-      searched = filled_same g.P.Kind.Tally.ops g.met.P.Kind.Tally.laws (g.P.Measure.error c.args.pricer.now) (g.P.Measure.error c.fill.new.pricer) (λ k r a b. sym (c.fill.ensures.same k r a b))
+      searched = searched_same g.P.Kind.Tally.ops g.met.P.Kind.Tally.laws (g.P.Measure.error c.args.pricer.now) (g.P.Measure.error c.fill.new.pricer) (λ k r a b. sym (c.fill.ensures.same k r a b))
           (ledger_of h) (sound_histogram h) c.list_levels-counted.result c.from-bins.result c.fill.new.tallies c.fill.new.links number c.fill.ensures.after;
     }
 

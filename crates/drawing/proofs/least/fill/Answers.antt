@@ -2,13 +2,13 @@ use Rattle.std.proofs.Common.{◌≡◌, ℕ, ◌+◌, refl, ◌∙◌, subst, a
 use Rattle.counting.specs.Meaning.{ledger_of}
 use Rattle.divisions.specs.Divisions.{price}
 use Rattle.drawing.specs.Cells.{Searched}
-use Rattle.drawing.proofs.Placed.{nothing_filled}
+use Rattle.drawing.proofs.Placed.{nothing_searched}
 use Rattle.drawing.proofs.least.fill.Goals as goal
 
 pub loop-end-init : goal.loop-end-init
 loop-end-init g c =
     let o = g.P.Kind.Tally.ops in
-    ((λ k r a b. refl), nothing_filled o (price o (g.P.Measure.error c.args.pricer.now) (ledger_of c.args.histogram.now)) c.args.counted c.args.bins c.args.tallies.now c.args.links.now c.requires.room.0 c.requires.room.1)
+    ((λ k r a b. refl), nothing_searched o (price o (g.P.Measure.error c.args.pricer.now) (ledger_of c.args.histogram.now)) c.args.counted c.args.bins c.args.tallies.now c.args.links.now c.requires.room.0 c.requires.room.1)
 
 pub loop-end-preserved : goal.loop-end-preserved
 loop-end-preserved g c =
