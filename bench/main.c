@@ -10,7 +10,7 @@
 #include <sys/resource.h>
 #include <time.h>
 
-// The library, as crates/ffi exports it.
+// The library, as crates/ffi_c exports it.
 uint32_t slip_count(uint16_t, size_t, size_t, const uint16_t *, size_t, uint32_t *, size_t);
 struct drawn slip_draw(uint16_t, size_t, size_t, const uint16_t *, size_t, uint16_t, uint64_t *, size_t,
                        uint16_t *, size_t, uint16_t *, size_t, uint16_t *, size_t);
