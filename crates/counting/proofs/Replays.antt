@@ -3,9 +3,8 @@ use Rattle.std.proofs.Common.{◌≡◌, ℕ, ◌+◌, ◌<◌, List, [], ◌∷
 use Rattle.std.proofs.lemmas.List.{take_more, take_more_set, drop-drop, drop-set-lt, map_push}
 use Rattle.counting.specs.Ledger.{Ledger, Asked, Told, step, after_from, told_from, after, told}
 use Rattle.counting.specs.Meaning.{ledger_of}
-use Rattle.counting.specs.Runs.{asked, told_of, Performed}
+use Rattle.counting.specs.Runs.{Answer, asked, told_of, Performed}
 use Rattle.counting.specs.declared.histogram.Histogram.{Histogram}
-use Rattle.counting.specs.declared.run.Answer.{Answer}
 use Rattle.counting.specs.declared.run.Call.{Call}
 
 after_push : (g : Ledger) (run : List Asked) (a : Asked) → after_from g (run ++ a ∷ []) ≡ (step (after_from g run) a).0

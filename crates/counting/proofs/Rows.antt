@@ -1,37 +1,34 @@
 -- What a loop over a row needs: the front of a list that passes a test, how often a level occurs, and sums with zeros in them.
-use Rattle.std.proofs.Common.{◌≡◌, ℕ, zero, suc, ◌+◌, ◌<◌, ◌≤◌, Bool, true, false, cond, eqb, ◌≢◌, List, [], ◌∷◌, length, get_or, take, set, replicate, sum, sym, refl, ap, ◌∙◌, inl, inr, arith}
-use Rattle.std.specs.List.{prefix_len}
-use Rattle.std.proofs.lemmas.Bool.{ne_eqb, eq-eqb, cases_eq}
-use Rattle.std.proofs.lemmas.List.Sums.{sum_by-cons, count_by_more_yes, count_by_more_no}
-use Rattle.std.proofs.lemmas.List.{get_or_past, get_or-take, length-take, length-take-le, get_or-set_same, get_or-set_other, ext_get_or}
+use Rattle.std.proofs.Common.{◌-◌, ◌++◌, drop, length-append, Option, Some, None, ltb, ◌&&◌, ◌≡◌, ℕ, zero, suc, ◌+◌, ◌<◌, ◌≤◌, Bool, true, false, cond, eqb, ◌≢◌, List, [], ◌∷◌, length, get_or, take, set, replicate, sum, sym, refl, ap, ◌∙◌, inl, inr, arith}
+use Rattle.std.specs.List.{fold, prefix_len, AllWithin, HoldsAt}
+use Rattle.std.specs.Option.{MatchOption}
+use Rattle.std.proofs.lemmas.Bool.{ne_eqb, eq-eqb, cases_eq, lt-ltb, le-ltb, ltb-true, false≢true}
+use Rattle.std.proofs.lemmas.List.Folds.{fold_stays}
+use Rattle.std.proofs.lemmas.List.Sums.{prefix_len_is, sum_by-cons, count_by_more_yes, count_by_more_no}
+use Rattle.std.proofs.lemmas.List.{get_or_past, length-take, get_or-set_same, get_or-set_other, length-replicate, drop-replicate, get_or-append_right}
+use Rattle.std.proofs.Math.Seq.{take-append_seam}
 use Rattle.counting.specs.Ledger.{occurs}
 
--- the first place that fails a test
-pub leading_is : {X : Type 0} (p : X → Bool) (xs : List X) (n : ℕ) (d : X) → n < length xs → ((k : ℕ) → k < n → p (get_or xs k d) ≡ true) → p (get_or xs n d) ≡ false → prefix_len p xs ≡ n
-leading_is p [] n d h before here = absurd (omega arith)
-leading_is p (x ∷ xs) zero d h before here = rw here refl
-leading_is p (x ∷ xs) (suc n) d h before here =
-    let e = leading_is p xs n d (omega arith) (λ k l. before (suc k) (omega arith)) here in
-    let first : p x ≡ true = before 0 (omega arith) in
-    rw (first, e) (omega arith)
+-- the first place of a row at which a number is not below the limit, as a search finds it
+pub first_not_below : (limit : ℕ) (row : List ℕ) (found : Option ℕ) →
+    MatchOption found (AllWithin (λ p. p < limit) row 0 (length row)) (λ i. (i < length row) × HoldsAt (λ p. limit ≤ p) row i × AllWithin (λ p. p < limit) row 0 i) →
+    MatchOption found (prefix_len (λ p. ltb p limit) row ≡ length row) (λ i. (i ≡ prefix_len (λ p. ltb p limit) row) × (i < length row))
+first_not_below limit row None all = prefix_len_is (λ p. ltb p limit) row (length row) 0 (omega arith) (λ k h. lt-ltb _ _ (all k 0 (omega arith) h)) (λ h. absurd (omega arith))
+first_not_below limit row (Some i) (within, here, before) = (
+  sym (prefix_len_is (λ p. ltb p limit) row i 0 (omega arith) (λ k h. lt-ltb _ _ (before k 0 (omega arith) h)) (λ h. le-ltb _ _ (here 0))),
+  within,
+)
 
--- no place fails it
-pub leading_all : {X : Type 0} (p : X → Bool) (xs : List X) (d : X) → ((k : ℕ) → k < length xs → p (get_or xs k d) ≡ true) → prefix_len p xs ≡ length xs
-leading_all p [] d all = refl
-leading_all p (x ∷ xs) d all =
-    let e = leading_all p xs d (λ k l. all (suc k) (omega arith)) in
-    let first : p x ≡ true = all 0 (omega arith) in
-    rw (first, e) (omega arith)
-
--- what stands before the first place that fails a test passes it
-pub leading_passes : {X : Type 0} (p : X → Bool) (xs : List X) (k : ℕ) (d : X) → k < prefix_len p xs → p (get_or xs k d) ≡ true
-leading_passes p [] k d h = absurd (omega arith)
-leading_passes p (x ∷ xs) k d h = go (p x) refl k h (λ i l. leading_passes p xs i d l)
+-- a row that is folded to true has no number that is not below the limit
+pub all_below_fold : (limit : ℕ) (row : List ℕ) → fold (λ all p. all && ltb p limit) true row ≡ true → (k : ℕ) → k < length row → get_or row k 0 < limit
+all_below_fold limit [] folded = λ k h. absurd (omega arith)
+all_below_fold limit (x ∷ row) folded = go (ltb x limit) refl folded (all_below_fold limit row)
   where
-    go : (b : Bool) → p x ≡ b → (i : ℕ) → i < cond b (1 + prefix_len p xs) 0 → ((j : ℕ) → j < prefix_len p xs → p (get_or xs j d) ≡ true) → p (get_or (x ∷ xs) i d) ≡ true
-    go true e zero l rest = e
-    go true e (suc i) l rest = rest i (omega arith)
-    go false e i l rest = absurd (omega arith)
+    go : (b : Bool) → ltb x limit ≡ b → fold (λ all p. all && ltb p limit) b row ≡ true → (fold (λ all p. all && ltb p limit) true row ≡ true → (k : ℕ) → k < length row → get_or row k 0 < limit) →
+        (k : ℕ) → k < length (x ∷ row) → get_or (x ∷ row) k 0 < limit
+    go true e folded rest zero h = ltb-true _ _ e
+    go true e folded rest (suc k) h = rest folded k (omega arith)
+    go false e folded rest k h = absurd (false≢true (sym (fold_stays (λ all p. all && ltb p limit) false (λ _. refl) row) ∙ folded))
 
 -- a level that no pixel of the row is does not occur
 pub occurs_none : (row : List ℕ) (l : ℕ) → ((k : ℕ) → k < length row → get_or row k 0 ≡ l → ⊥) → occurs l row ≡ 0
@@ -85,8 +82,15 @@ changed_more change old new row i v wide within level each one k h = elim (cases
 pub getD_take_past : (n : ℕ) (xs : List ℕ) (i : ℕ) → n ≤ i → get_or (take n xs) i 0 ≡ 0
 getD_take_past n xs i h = get_or_past (take n xs) i 0 (simp length-take (omega arith))
 
--- a list that begins with the numbers, as a front of it
-pub front_is : (numbers cells : List ℕ) → length numbers ≤ length cells → ((i : ℕ) → i < length numbers → get_or cells i 0 ≡ get_or numbers i 0) → take (length numbers) cells ≡ numbers
-front_is numbers cells short same =
-    let long = length-take-le (length numbers) cells short in
-    ext_get_or 0 (take (length numbers) cells) numbers long (λ i h. let lt : i < length numbers = rw long at h in get_or-take (length numbers) cells i 0 lt ∙ same i lt)
+-- numbers with zeros after them, up to 1024 in all
+pub padded_is : (numbers : List ℕ) → numbers ++ drop (length numbers) (replicate 1024 0) ≡ numbers ++ replicate (1024 - length numbers) 0
+padded_is numbers = ap (λ (rest : List ℕ). numbers ++ rest) (drop-replicate (length numbers) 1024 0)
+
+pub length_padded : (numbers : List ℕ) → length numbers ≤ 1024 → length (numbers ++ replicate (1024 - length numbers) 0) ≡ 1024
+length_padded numbers few = length-append numbers _ ∙ rw length-replicate (omega arith)
+
+pub front_of_padded : (numbers : List ℕ) → take (length numbers) (numbers ++ replicate (1024 - length numbers) 0) ≡ numbers
+front_of_padded numbers = take-append_seam numbers _
+
+pub past_padded : (numbers : List ℕ) (l : ℕ) → length numbers ≤ l → get_or (numbers ++ replicate (1024 - length numbers) 0) l 0 ≡ 0
+past_padded numbers l h = get_or-append_right numbers _ (length numbers) l 0 refl h ∙ zeros_at (1024 - length numbers) (l - length numbers)

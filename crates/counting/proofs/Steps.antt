@@ -9,7 +9,8 @@ use Rattle.counting.specs.Ledger.{Ledger, Asked, Told, now_total, counted, withd
 use Rattle.counting.specs.Meaning.{ledger_of}
 use Rattle.counting.specs.Short.{LowestShort}
 use Rattle.counting.specs.declared.histogram.Histogram.{Histogram}
-use Rattle.counting.proofs.Rows.{leading_is, leading_all, leading_passes, occurs_none, sum_zeros, getD_take_past}
+use Rattle.std.proofs.lemmas.List.Sums.{prefix_len_is, prefix_len_passes}
+use Rattle.counting.proofs.Rows.{occurs_none, sum_zeros, getD_take_past}
 
 level_at : (k l : ℕ) → l < k → get_or (range_with_len 0 k) l 0 ≡ l
 level_at k l h = get_or-range_with_len 0 k l 0 h ∙ zero-add l
@@ -27,7 +28,7 @@ module _ (g : Ledger) (row : List ℕ) where
 
     -- each pixel of the row is a level
     pub pixel_is_level : (k : ℕ) → k < length row → get_or row k 0 < g.levels
-    pixel_is_level k h = ltb-true _ _ (leading_passes (λ p. ltb p g.levels) row k 0 (omega arith))
+    pixel_is_level k h = ltb-true _ _ (prefix_len_passes (λ p. ltb p g.levels) row k 0 (omega arith))
 
     pub counted_too_large : 4294967295 < total_of g + length row → step g (counted row) ≡ refuses g 3 (total_of g)
     counted_too_large h = let t = lt-ltb 4294967295 (total_of g + length row) h in rw (all_levels, t) refl
@@ -42,13 +43,14 @@ module _ (g : Ledger) (row : List ℕ) where
     withdrawn_accepted e = let t : ltb (lowest_short g row) g.levels ≡ false = le-ltb _ _ (omega arith) in rw (all_levels, t) refl
 
   lowest_short_is : (low : ℕ) → low < g.levels → pixels_at g low < occurs low row → ((l : ℕ) → l < low → occurs l row ≤ pixels_at g l) → low ≡ lowest_short g row
-  lowest_short_is low h here before = sym (leading_is _ (range_with_len 0 g.levels) low 0 (rw length-range_with_len h)
+  lowest_short_is low h here before = sym (prefix_len_is _ (range_with_len 0 g.levels) low 0 (rw length-range_with_len (omega arith))
       (λ k l. let e = level_at g.levels k (omega arith) in rw e (le-leb _ _ (before k l)))
-      (let e = level_at g.levels low h in rw e (lt-leb _ _ here)))
+      (λ _. let e = level_at g.levels low h in rw e (lt-leb _ _ here)))
 
   none_short_is : ((l : ℕ) → l < g.levels → occurs l row ≤ pixels_at g l) → lowest_short g row ≡ g.levels
-  none_short_is all = leading_all _ (range_with_len 0 g.levels) 0
-      (λ k l. let h : k < g.levels = rw length-range_with_len at l in let e = level_at g.levels k h in rw e (le-leb _ _ (all k h))) ∙ length-range_with_len 0 g.levels
+  none_short_is all = prefix_len_is _ (range_with_len 0 g.levels) g.levels 0 (rw length-range_with_len (omega arith))
+      (λ k l. let e = level_at g.levels k l in rw e (le-leb _ _ (all k l)))
+      (λ l. let h : g.levels < g.levels = rw length-range_with_len at l in absurd (omega arith))
 
 -- the first `levels` of a list of pixels, each changed by how often it occurs in the row
 pub each_level_is : (change : ℕ → ℕ → ℕ) (levels : ℕ) (old new row : List ℕ) → levels ≤ 1024 → length new ≡ 1024 →

@@ -1,12 +1,11 @@
 -- A run of calls as the code has it: what each call asks for, what each answer tells, and what a run leaves.
-use Rattle.std.specs.Prelude.{◌≡◌, min, List, map, length, take, drop}
+use Rattle.std.specs.Prelude.{◌≡◌, ℕ, min, List, map, length, take, drop, Some, None, Option, Ok, Err, Result, IfErr}
 use Rattle.counting.specs.Ledger.{Asked, opened, counted, withdrawn, cleared, Told, done, now_total, refused, step, after, told}
 use Rattle.refusals.specs.Refusals.{refusal_number, carried}
 use Rattle.counting.specs.Meaning.{ledger_of}
 use Rattle.counting.specs.Sound.{Sound}
 use Rattle.counting.specs.declared.histogram.Histogram.{Histogram}
-use Rattle.counting.specs.declared.run.Answer.{Answer}
-use Rattle.counting.specs.declared.run.Answer.TheVariants.{Done, Total, Refused}
+use Rattle.refusals.specs.declared.refusal.Refusal.{Refusal}
 use Rattle.counting.specs.declared.run.Call.{Call}
 use Rattle.counting.specs.declared.run.Call.TheVariants.{Open, Count, Withdraw, Clear}
 
@@ -16,22 +15,20 @@ asked (Count row) = counted row.now
 asked (Withdraw row) = withdrawn row.now
 asked Clear = cleared
 
+-- what a call answers: the new total where it gives one, or why it is refused
+abbrev pub Answer : Type 0
+Answer = Result (Option ℕ) Refusal
+
 abbrev pub told_of : Answer → Told
-told_of Done = done
-told_of (Total total) = now_total total
-told_of (Refused refusal) = refused (refusal_number refusal) (carried refusal)
+told_of (Ok None) = done
+told_of (Ok (Some total)) = now_total total
+told_of (Err refusal) = refused (refusal_number refusal) (carried refusal)
 
--- a refused call leaves the histogram as it was
-abbrev pub Unaltered : Answer → Histogram → Histogram → Type 0
-Unaltered Done before then = Unit {0}
-Unaltered (Total total) before then = Unit {0}
-Unaltered (Refused refusal) before then = then ≡ before
-
--- one call: the histogram and the answer are the ledger's
+-- one call: the histogram and the answer are the ledger's, and a refused call leaves the histogram as it was
 pub record Performed (before : Histogram) (call : Call) (answer : Answer) (then : Histogram) : Type 0 where
   pub ledger : ledger_of then ≡ (step (ledger_of before) (asked call)).0
   pub tells : told_of answer ≡ (step (ledger_of before) (asked call)).1
-  pub unaltered : Unaltered answer before then
+  pub unaltered : IfErr answer (λ _. then ≡ before)
 
 -- as many calls as the list for their answers has room for
 abbrev pub performed : List Call → List Answer → List Asked

@@ -1,8 +1,9 @@
 // How many pixels of a scan stand at each grey level.
 ghost use Rattle.std.specs.Prelude.{◌≡◌, ℕ, ◌≤◌, length, take, sum, slice_index};
 
-// Levels are numbered from 0. What exists balances: the total is the sum over the levels. The pixels stand first, so that a copy
-// of them takes no padding along.
+// Levels are numbered from 0. What exists balances: the total is the sum over the levels. The pixels are an array with their number
+// beside it: no call allocates, and a vector of fixed capacity cannot be copied without a way to fail, which a change on a copy
+// would pass on. They stand first, so that a copy of them takes no padding along.
 #[derive(Drop)]
 pub struct Histogram {
     pixels: [u32; 1024],

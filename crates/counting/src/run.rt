@@ -13,14 +13,8 @@ pub enum Call<'a> {
     Clear,
 }
 
-#[derive(Clone, Copy, PartialEq, Eq, Debug)]
-pub enum Answer {
-    // opened or cleared
-    Done,
-    // counted or withdrawn: the new total
-    Total(u32),
-    Refused(Refusal),
-}
+// The new total where the call counts or withdraws, nothing where it opens or clears; or why it is refused.
+pub type Answer = Result<Option<u32>, Refusal>;
 
 impl Histogram {
     // Makes the call on the histogram.
@@ -28,21 +22,12 @@ impl Histogram {
         ensures { Performed self.old call.entry result self.new }
     {
         match call {
-            Call::Open(levels) => match self.open(levels) {
-                Ok(()) => Answer::Done,
-                Err(refusal) => Answer::Refused(refusal),
-            },
-            Call::Count(row) => match self.count(row) {
-                Ok(total) => Answer::Total(total),
-                Err(refusal) => Answer::Refused(refusal),
-            },
-            Call::Withdraw(row) => match self.withdraw(row) {
-                Ok(total) => Answer::Total(total),
-                Err(refusal) => Answer::Refused(refusal),
-            },
+            Call::Open(levels) => self.open(levels).map(|()| None),
+            Call::Count(row) => self.count(row).map(Some),
+            Call::Withdraw(row) => self.withdraw(row).map(Some),
             Call::Clear => {
                 self.clear();
-                Answer::Done
+                Ok(None)
             }
         }
     }
@@ -55,7 +40,8 @@ pub fn replay(calls: &[Call<'_>], answers: &mut [Answer], place: &mut Histogram)
 {
     *place = Histogram::fresh();
     let made = calls.len().min(answers.len());
-    for i in 0..made {
-        answers[i] = place.perform(calls[i]);
+    // By index: a proof knows nothing of what was written through `iter_mut`.
+    for (i, call) in calls[..made].iter().enumerate() {
+        answers[i] = place.perform(*call);
     }
 }

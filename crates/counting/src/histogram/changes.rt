@@ -1,5 +1,6 @@
 // The calls that change a histogram: opening, counting, withdrawing and clearing.
 ghost use Rattle.std.specs.Prelude.{◌≡◌, ℕ, ◌+◌, ◌-◌, ◌<◌, ◌≤◌, min, true, length, IfNone, sum, MatchOption, slice_index};
+ghost use Rattle.std.specs.Option.{SomeIff};
 ghost use Rattle.counting.specs.Ledger.{step, opened, counted, withdrawn, cleared, first_no_level, occurs};
 ghost use Rattle.counting.specs.Meaning.{ledger_of, Goes, nothing, a_total};
 ghost use Rattle.counting.specs.Short.{LowestShort};
@@ -11,11 +12,7 @@ use refusals::Refusal;
 fn all_levels(levels: u16, row: &[u16]) -> bool
     ensures { result ≡ true → (k : ℕ) → k < length row.now → slice_index row.now k < levels }
 {
-    let mut all = true;
-    for pixel in row {
-        all &= *pixel < levels;
-    }
-    all
+    row.iter().fold(true, |all, pixel| all & (*pixel < levels))
 }
 
 // The first place of a pixel that is not one of `levels` levels. Nearly every row has none, so that is asked first.
@@ -25,12 +22,14 @@ pub fn first_no_level(levels: u16, row: &[u16]) -> Option<usize>
     if all_levels(levels, row) {
         return None;
     }
-    for (place, pixel) in row.iter().enumerate() {
-        if *pixel >= levels {
-            return Some(place);
-        }
-    }
-    None
+    row.iter().position(|pixel| *pixel >= levels)
+}
+
+// The total with more pixels, if it is at most 4,294,967,295.
+fn grown(total: u32, more: usize) -> Option<u32>
+    ensures { SomeIff result (total + more ≤ 4294967295) (total + more) }
+{
+    total.checked_add(u32::try_from(more).ok()?)
 }
 
 // Adds each pixel of the row to its level.
@@ -41,17 +40,7 @@ fn add_row(pixels: &mut [u32; 1024], row: &[u16])
     ensures all { sum pixels.new ≡ sum pixels.old + length row.now }
 {
     for pixel in row {
-        pixels[*pixel as usize] += 1;
-    }
-}
-
-// The lower of the lowest level so far, if any, and another.
-fn lower(lowest: Option<u16>, level: u16) -> u16
-    ensures { MatchOption lowest (result ≡ level) (λ low. result ≡ min low level) }
-{
-    match lowest {
-        Some(low) => low.min(level),
-        None => level,
+        pixels[usize::from(*pixel)] += 1;
     }
 }
 
@@ -64,11 +53,11 @@ fn take_row(pixels: &mut [u32; 1024], row: &[u16]) -> Option<u16>
 {
     let mut lowest = None;
     for pixel in row {
-        let level = *pixel as usize;
+        let level = usize::from(*pixel);
         if pixels[level] > 0 {
             pixels[level] -= 1;
         } else {
-            lowest = Some(lower(lowest, *pixel));
+            lowest = Some(lowest.map_or(*pixel, |low: u16| low.min(*pixel)));
         }
     }
     lowest
@@ -79,7 +68,7 @@ impl Histogram {
     pub fn open(&mut self, levels: u16) -> Result<(), Refusal>
         ensures { Goes self.old (opened levels) nothing result self.new }
     {
-        if levels < 2 || levels > 1024 {
+        if !(2..=1024).contains(&levels) {
             return Err(Refusal::LevelsOutOfRange { levels });
         }
         *self = Histogram::blank(levels);
@@ -93,12 +82,11 @@ impl Histogram {
         if let Some(place) = first_no_level(self.levels, row) {
             return Err(Refusal::NotALevel { place });
         }
-        if row.len() > (u32::MAX - self.total) as usize {
+        let Some(total) = grown(self.total, row.len()) else {
             return Err(Refusal::TotalTooLarge { total: self.total });
-        }
+        };
         let mut grown = self.pixels;
         add_row(&mut grown, row);
-        let total = self.total + row.len() as u32;
         *self = Histogram {
             pixels: grown,
             total,

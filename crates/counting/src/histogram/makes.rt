@@ -1,5 +1,5 @@
 // A histogram made from the pixels at its levels.
-ghost use Rattle.std.specs.Prelude.{◌≡◌, ℕ, ◌<◌, ◌≤◌, length, sum, MatchOption, slice_index};
+ghost use Rattle.std.specs.Prelude.{◌≡◌, ◌-◌, ◌<◌, ◌≤◌, ◌++◌, length, replicate, sum, MatchOption};
 ghost use Rattle.counting.specs.Sound.{Sound, of_pixels};
 ghost use Rattle.counting.specs.Meaning.{ledger_of};
 
@@ -9,24 +9,18 @@ use super::Histogram;
 fn sum_of(numbers: &[u32]) -> Option<u32>
     ensures { MatchOption result (4294967295 < sum numbers.now) (λ total. total ≡ sum numbers.now) }
 {
-    let mut total: u32 = 0;
-    for number in numbers {
-        total = total.checked_add(*number)?;
-    }
-    Some(total)
+    numbers
+        .iter()
+        .try_fold(0u32, |total, number| total.checked_add(*number))
 }
 
 // The numbers, and zeros after them.
 fn padded(numbers: &[u32]) -> [u32; 1024]
     requires { length numbers.now ≤ 1024 }
-    ensures width { length result ≡ 1024 }
-    ensures numbers { (i : ℕ) → i < length numbers.now → slice_index result i ≡ slice_index numbers.now i }
-    ensures zeros { (i : ℕ) → length numbers.now ≤ i → slice_index result i ≡ 0 }
+    ensures { (length result ≡ 1024) × (result ≡ numbers.now ++ replicate (1024 - length numbers.now) 0) }
 {
     let mut cells = [0; 1024];
-    for (i, number) in numbers.iter().enumerate() {
-        cells[i] = *number;
-    }
+    cells[..numbers.len()].copy_from_slice(numbers);
     cells
 }
 
@@ -35,7 +29,7 @@ impl Histogram {
     pub fn of(pixels: &[u32]) -> Option<Histogram>
         ensures { MatchOption result (Sound (of_pixels pixels.now) → ⊥) (λ h. ledger_of h ≡ of_pixels pixels.now) }
     {
-        if pixels.len() < 2 || pixels.len() > 1024 {
+        if !(2..=1024).contains(&pixels.len()) {
             return None;
         }
         let total = sum_of(pixels)?;

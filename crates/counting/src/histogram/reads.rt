@@ -42,54 +42,40 @@ impl Histogram {
     pub fn pixels_at(&self, level: u16) -> u32
         ensures { result ≡ pixels_at (ledger_of self.now) level }
     {
-        if level < self.levels {
-            self.pixels[level as usize]
-        } else {
-            0
-        }
+        self.pixels().get(usize::from(level)).copied().unwrap_or(0)
     }
 
     // The pixels at each level, from level 0 up.
     pub fn pixels(&self) -> &[u32]
         ensures { result.now ≡ (ledger_of self.now).at }
     {
-        &self.pixels[0..self.levels as usize]
+        &self.pixels[..usize::from(self.levels)]
     }
 
     // How many levels have pixels.
     pub fn counted_levels(&self) -> u16
         ensures { result ≡ counted_levels (ledger_of self.now) }
     {
-        let mut counted = 0;
-        for level in 0..self.levels {
-            if self.pixels[level as usize] > 0 {
-                counted += 1;
-            }
-        }
-        counted
+        self.pixels().iter().filter(|pixels| **pixels > 0).count() as u16
     }
 
     // The lowest level that has pixels.
     pub fn darkest(&self) -> Option<u16>
         ensures { Darkest (ledger_of self.now) result }
     {
-        for level in 0..self.levels {
-            if self.pixels_at(level) > 0 {
-                return Some(level);
-            }
-        }
-        None
+        self.pixels()
+            .iter()
+            .position(|pixels| *pixels > 0)
+            .map(|level| level as u16)
     }
 
     // The highest level that has pixels.
     pub fn palest(&self) -> Option<u16>
         ensures { Palest (ledger_of self.now) result }
     {
-        for level in (0..self.levels).rev() {
-            if self.pixels_at(level) > 0 {
-                return Some(level);
-            }
-        }
-        None
+        self.pixels()
+            .iter()
+            .rposition(|pixels| *pixels > 0)
+            .map(|level| level as u16)
     }
 }

@@ -1,4 +1,4 @@
-use Rattle.std.proofs.Common.{◌≡◌, ℕ, ◌+◌, ◌-◌, List, length, get_or, IfNone, sum, ap, ◌∙◌, subst, arith, take_all}
+use Rattle.std.proofs.Common.{rules, tests, ◌≡◌, ℕ, ◌+◌, ◌-◌, List, length, get_or, IfNone, sum, ap, ◌∙◌, subst, arith, take_all}
 use Rattle.counting.specs.Ledger.{occurs}
 use Rattle.counting.specs.Short.{LowestShort}
 use Rattle.counting.proofs.Shortage.{taken_one, taken_none}
@@ -7,12 +7,13 @@ use Rattle.counting.proofs.histogram.changes.take_row.Goals.{then-pixels-level-g
 
 pub loop-pixel-preserved : goal.loop-pixel-preserved
 loop-pixel-preserved c =
+    let is = c.from-level.ensures in
     let level = c.requires c.loop-pixel.pixel-index (omega arith) in
     elim c.if-pixels-level-gt0.branch [
       | then-pixels-level-gt0 w ↦ taken_one c.args.pixels.now c.loop-pixel.pixels c.args.row.now c.loop-pixel.pixel-index (omega arith) level
-          c.loop-pixel.lowest c.if-pixels-level-gt0.lowest c.if-pixels-level-gt0.pixels c.loop-pixel.invariant w.if-pixels-level-gt0.true w.pixels-is w.lowest-is
+          c.loop-pixel.lowest c.if-pixels-level-gt0.lowest c.if-pixels-level-gt0.pixels c.loop-pixel.invariant (rw is at w.if-pixels-level-gt0.true) (rw is at w.pixels-is) w.lowest-is
       | else-pixels-level-gt0 w ↦ taken_none c.args.pixels.now c.loop-pixel.pixels c.args.row.now c.loop-pixel.pixel-index (omega arith) level
-          c.loop-pixel.lowest c.if-pixels-level-gt0.lowest c.if-pixels-level-gt0.pixels w.lower.result c.loop-pixel.invariant w.if-pixels-level-gt0.false w.lower.ensures w.pixels-is w.lowest-is
+          c.loop-pixel.lowest c.if-pixels-level-gt0.lowest c.if-pixels-level-gt0.pixels w.map_or.result c.loop-pixel.invariant (rw is at w.if-pixels-level-gt0.false) (search (rules, tests)) w.pixels-is w.lowest-is
     ]
 
 pub returns : goal.returns

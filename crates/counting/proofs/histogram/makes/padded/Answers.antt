@@ -1,6 +1,8 @@
-use Rattle.std.proofs.Common.{refl, arith}
-use Rattle.counting.proofs.Rows.{zeros_at}
+use Rattle.std.proofs.Common.{◌∙◌, ap, length}
+use Rattle.counting.proofs.Rows.{padded_is, length_padded}
 use Rattle.counting.proofs.histogram.makes.padded.Goals as goal
 
-pub loop-i-init : goal.loop-i-init
-loop-i-init c = (refl, (λ k h. absurd (omega arith)), λ k h. zeros_at 1024 k)
+pub returns : goal.returns
+returns c =
+    let is = padded_is c.args.numbers.now in
+    rw c.copy_from_slice.ensures.after (ap length is ∙ length_padded c.args.numbers.now c.requires, is)
