@@ -1,91 +1,77 @@
 -- How the bin of each level is found, level by level: the bin goes up by one when its bound is passed.
-use Rattle.std.proofs.Common.{◌≡◌, ℕ, ◌+◌, ◌-◌, ◌<◌, ◌≤◌, ltb, List, length, get_or, take, set, sym, ◌∙◌, inl, inr, arith, length-set}
+use Rattle.std.proofs.Common.{◌≡◌, ℕ, ◌+◌, ◌-◌, ◌<◌, ◌≤◌, ltb, List, length, get_or, take, replicate, refl, sym, ap, ◌∙◌, inl, inr, arith, length-append, length-drop}
 use Rattle.std.specs.List.{prefix_len}
+use borrow.Rule.Slice.PartMut.{put_mid}
+use Rattle.std.specs.List.{AllAdjacentBelow}
+use Rattle.std.proofs.lemmas.List.Sorted.{IsNonDecreasingBy-from_all_adjacent}
+use Rattle.std.proofs.lemmas.List.Sums.{prefix_len_is}
 use Rattle.std.proofs.lemmas.Bool.{lt-ltb, le-ltb, cases_lt, cases_eq}
-use Rattle.std.proofs.lemmas.List.{get_or-set_same, get_or-set_other, get_or-take, length-take-le}
-use Rattle.counting.proofs.Rows.{leading_is, front_is}
+use Rattle.std.proofs.lemmas.List.{length-map, length-take-le, get_or-take, get_or_append_left, get_or-append_right, get_or-replicate, get_or_default, length-replicate}
 use Rattle.tables.specs.Table.{Table, Lawful}
+use Rattle.tables.specs.Bins.{bounds_of, representatives_of}
 use Rattle.tables.specs.Meaning.{table_of}
 use Rattle.tables.specs.declared.table.LevelTable.{LevelTable}
 
--- the levels below `level` have their bins, and `bin` is the lowest that `level` can have, or the last
-pub record Binning (bounds of_level : List ℕ) (bin level : ℕ) : Type 0 where
+-- the bins below `bin` have filled the levels below `first`
+pub record Binning (bounds of_level : List ℕ) (bin first : ℕ) : Type 0 where
   pub wide : length of_level ≡ 1024
-  pub inside : bin < length bounds
-  pub below : (k : ℕ) → k < bin → get_or bounds k 0 < level
-  pub reached : bin + 1 < length bounds → level ≤ get_or bounds bin 0
-  pub found : (l : ℕ) → l < level → l ≤ get_or bounds (length bounds - 1) 0 → get_or of_level l 0 ≡ prefix_len (λ bound. ltb bound l) bounds
+  pub below : (k : ℕ) → k < bin → get_or bounds k 0 < first
+  pub ahead : bin < length bounds → first ≤ get_or bounds bin 0
+  pub reached : bin ≡ length bounds → first ≡ get_or bounds (length bounds - 1) 0 + 1
+  pub found : (l : ℕ) → l < first → get_or of_level l 0 ≡ prefix_len (λ bound. ltb bound l) bounds
 
-module _ (bounds of_level : List ℕ) (bin level : ℕ) (b : Binning bounds of_level bin level) where
-  -- within the last bound, the bin at hand is the lowest
-  lowest : level ≤ get_or bounds (length bounds - 1) 0 → bin ≡ prefix_len (λ bound. ltb bound level) bounds
-  lowest h =
-      let not_below : level ≤ get_or bounds bin 0 = elim (cases_lt (bin + 1) (length bounds)) [
-        | inl more ↦ b.reached more
-        | inr last ↦ (let e : length bounds - 1 ≡ bin = omega (arith, b.inside) in rw e at h)
-      ] in
-      sym (leading_is (λ bound. ltb bound level) bounds bin 0 b.inside (λ k lt. lt-ltb _ _ (b.below k lt)) (le-ltb _ _ not_below))
+-- and the next bin fills the levels up to its bound
+module _ (bounds of_level part : List ℕ) (bin first bound : ℕ) (b : Binning bounds of_level bin first)
+    (inside : bin < length bounds) (here : bound ≡ get_or bounds bin 0) (within : bound < 1024)
+    (rising : (i : ℕ) → i + 1 < length bounds → get_or bounds i 0 < get_or bounds (i + 1) 0)
+    (filled : part ≡ replicate (bound + 1 - first) bin) where
+  front : length (take first of_level) ≡ first
+  front = length-take-le first of_level (omega (arith, b.wide, b.ahead inside))
 
-  next_found : level < 1024 → (l : ℕ) → l < level + 1 → l ≤ get_or bounds (length bounds - 1) 0 → get_or (set of_level level bin) l 0 ≡ prefix_len (λ bound. ltb bound l) bounds
-  next_found within l lt h = elim (cases_eq l level) [
-    | inl e ↦ (let here = get_or-set_same of_level level bin 0 (omega (arith, b.wide)) in rw e (here ∙ lowest (rw e at h)))
-    | inr ne ↦ get_or-set_other of_level level l bin 0 ne ∙ b.found l (omega arith) h
+  long : length part ≡ bound + 1 - first
+  long = ap length filled ∙ length-replicate (bound + 1 - first) bin
+
+  next_found : (l : ℕ) → l < bound + 1 → get_or (put_mid first (bound + 1 - first) of_level part) l 0 ≡ prefix_len (λ bound. ltb bound l) bounds
+  next_found l lt = elim (cases_lt l first) [
+    | inl before ↦ (
+        let same : get_or (put_mid first (bound + 1 - first) of_level part) l 0 ≡ get_or of_level l 0 =
+        get_or_append_left (take first of_level) _ 0 l (omega (arith, front)) ∙ get_or-take first of_level l 0 before in
+        same ∙ b.found l before)
+    | inr after ↦ (
+        let new : get_or (put_mid first (bound + 1 - first) of_level part) l 0 ≡ bin =
+        get_or-append_right (take first of_level) _ first l 0 front after
+        ∙ get_or_append_left part _ 0 (l - first) (omega (arith, long))
+        ∙ ap (λ (cells : List ℕ). get_or cells (l - first) 0) filled ∙ get_or-replicate (bound + 1 - first) (l - first) bin 0 (omega arith) in
+        let lowest = prefix_len_is (λ bound. ltb bound l) bounds bin 0 (omega arith) (λ k h. lt-ltb _ _ (let below = b.below k h in omega arith)) (λ _. le-ltb _ _ (omega arith)) in
+        new ∙ sym lowest)
   ]
 
-  -- the bin's bound is passed
-  pub next_bin : level < 1024 → bin + 1 < length bounds → get_or bounds bin 0 ≤ level → ((i : ℕ) → i + 1 < length bounds → get_or bounds i 0 < get_or bounds (i + 1) 0) → Binning bounds (set of_level level bin) (bin + 1) (level + 1)
-  next_bin within more passed rising = record {
-    wide = length-set of_level level bin ∙ b.wide;
-    inside = more;
-    below = (λ k lt. elim (cases_eq k bin) [ inl e ↦ rw e (omega arith) | inr ne ↦ (let h = b.below k (omega arith) in omega arith) ]);
-    reached = (λ again. let up = rising bin more in let here = b.reached more in omega arith);
-    found = next_found within;
+  pub next_bin : Binning bounds (put_mid first (bound + 1 - first) of_level part) (bin + 1) (bound + 1)
+  next_bin = record {
+    wide = simp (length-append, length-drop) (omega (arith, front, long, b.wide, b.ahead inside));
+    below = (λ k h. elim (cases_eq k bin) [ inl e ↦ rw (e, here) (omega arith) | inr ne ↦ (let below = b.below k (omega arith) in omega (arith, b.ahead inside)) ]);
+    ahead = (λ more. let up = rising bin more in omega arith);
+    reached = (λ last. let e : length bounds - 1 ≡ bin = omega arith in rw (e, here) refl);
+    found = next_found;
   }
 
-  -- it is not
-  pub same_bin : level < 1024 → (bin + 1 < length bounds → level < get_or bounds bin 0) → Binning bounds (set of_level level bin) bin (level + 1)
-  same_bin within still = record {
-    wide = length-set of_level level bin ∙ b.wide;
-    inside = b.inside;
-    below = (λ k lt. let h = b.below k lt in omega arith);
-    reached = (λ more. let h = still more in omega arith);
-    found = next_found within;
-  }
-
--- a lawful table's bounds and representatives in longer lists, zeros after them
-module _ (t : Table) (law : Lawful t) (bounds greys : List ℕ) (wide : length bounds ≡ 256)
-    (same_bounds : (i : ℕ) → i < length t.bounds → get_or bounds i 0 ≡ get_or t.bounds i 0)
-    (same_greys : (i : ℕ) → i < length t.representatives → get_or greys i 0 ≡ get_or t.representatives i 0) where
-  pub long_rising : (i : ℕ) → i + 1 < length t.bounds → get_or bounds i 0 < get_or bounds (i + 1) 0
-  long_rising i h = let e = same_bounds i (omega arith) in let f = same_bounds (i + 1) h in let r = law.rising i h in omega arith
-
-  pub long_ends : get_or bounds (length t.bounds - 1) 0 + 1 ≡ t.levels
-  long_ends = let e = same_bounds (length t.bounds - 1) (omega (arith, law.few)) in omega (arith, law.ends)
-
-  pub long_greys : (i : ℕ) → i < length t.bounds → get_or greys i 0 < t.levels
-  long_greys i h =
-      let inside : i < length t.representatives = omega (arith, law.paired) in
-      let e = same_greys i inside in let f = law.greys i inside in omega arith
-
-  pub long_lowest : (of_level : List ℕ) → ((l : ℕ) → l ≤ get_or t.bounds (length t.bounds - 1) 0 → l < 1024 → get_or of_level l 0 ≡ prefix_len (λ bound. ltb bound l) t.bounds) →
-      (l : ℕ) → l < t.levels → get_or of_level l 0 ≡ prefix_len (λ bound. ltb bound l) (take (length t.bounds) bounds)
-  long_lowest of_level found l h =
-      let front = front_is t.bounds bounds (omega (arith, law.few)) same_bounds in
-      rw front (found l (omega (arith, law.ends)) (omega (arith, law.range)))
+-- no bound of a lawful table is past its levels
+pub bound_below : (t : Table) → Lawful t → (i : ℕ) → i < length t.bounds → get_or t.bounds i 0 < t.levels
+bound_below t law i h =
+    let rising : AllAdjacentBelow (λ x y. x ≤ y) t.bounds (length t.bounds) =
+    λ k d more. (let up = law.rising k more in omega (arith, get_or_default t.bounds k d 0 (omega arith), get_or_default t.bounds (k + 1) d 0 more)) in
+    omega (arith, law.ends, IsNonDecreasingBy-from_all_adjacent (λ x. x) t.bounds rising i (length t.bounds - 1) 0 (omega arith) (omega arith))
 
 -- a table that exists keeps the rules
 pub lawful_table : (t : LevelTable) → Lawful (table_of t)
 lawful_table t =
-    let bounds = length-take-le t.bins t.bounds (omega (arith, t.few, t.widths)) in
-    let greys = length-take-le t.bins t.representatives (omega (arith, t.few, t.widths)) in
+    let bounds : length (bounds_of t.bins.items) ≡ length t.bins.items = length-map t.bins.items (λ bin. bin.bound) in
+    let greys : length (representatives_of t.bins.items) ≡ length t.bins.items = length-map t.bins.items (λ bin. bin.representative) in
     record {
       range = t.range;
       few = (omega (arith, t.few), omega (arith, t.few));
       paired = greys ∙ sym bounds;
-      rising = (λ i h. let more : i + 1 < t.bins = rw bounds at h in
-          let e = get_or-take t.bins t.bounds i 0 (omega arith) in
-          let f = get_or-take t.bins t.bounds (i + 1) 0 more in
-          let up = t.rising i more in omega arith);
-      ends = (let e = get_or-take t.bins t.bounds (t.bins - 1) 0 (omega (arith, t.few)) in rw (bounds, e) t.ends);
-      greys = (λ i h. let inside : i < t.bins = rw greys at h in rw (get_or-take t.bins t.representatives i 0 inside) (t.greys i inside));
+      rising = (λ i h. t.rising i (omega arith));
+      ends = rw bounds t.ends;
+      greys = (λ i h. t.greys i (omega arith));
     }

@@ -1,3 +1,4 @@
 pub mod Table
+pub mod Bins
 pub mod Meaning
 pub mod Rows

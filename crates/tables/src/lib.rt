@@ -3,4 +3,4 @@
 
 mod table;
 
-pub use table::LevelTable;
+pub use table::{Bin, LevelTable};

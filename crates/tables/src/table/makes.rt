@@ -2,76 +2,70 @@
 ghost use Rattle.std.specs.Prelude.{◌≡◌, ℕ, ◌+◌, ◌-◌, ◌<◌, ◌≤◌, T, length, Decides, MatchOption, nat_lt, slice_index};
 ghost use Rattle.std.specs.List.{prefix_len};
 ghost use Rattle.tables.specs.Table.{Lawful, given, fresh_table};
+ghost use Rattle.tables.specs.Bins.{bounds_of, representatives_of};
 ghost use Rattle.tables.specs.Meaning.{table_of};
 
-use super::LevelTable;
+use super::{Bin, LevelTable};
+use arrayvec::ArrayVec;
 
 // The rules of a table.
 fn lawful(levels: u16, bounds: &[u16], representatives: &[u16]) -> bool
     ensures { Decides result (Lawful (given levels bounds.now representatives.now)) }
 {
-    levels >= 2
-        && levels <= 1024
-        && bounds.len() >= 1
-        && bounds.len() <= 256
+    (2..=1024).contains(&levels)
+        && (1..=256).contains(&bounds.len())
         && representatives.len() == bounds.len()
         && rises(bounds)
-        && bounds[bounds.len() - 1] == levels - 1
+        && bounds.last().copied() == Some(levels - 1)
         && all_below(representatives, levels)
 }
 
 // Whether each number is below the next.
-fn rises(bounds: &[u16]) -> bool
-    ensures { Decides result ((i : ℕ) → i + 1 < length bounds.now → slice_index bounds.now i < slice_index bounds.now (i + 1)) }
+fn rises(numbers: &[u16]) -> bool
+    ensures { Decides result ((i : ℕ) → i + 1 < length numbers.now → slice_index numbers.now i < slice_index numbers.now (i + 1)) }
 {
-    for i in 1..bounds.len() {
-        if bounds[i - 1] >= bounds[i] {
-            return false;
-        }
-    }
-    true
+    numbers.is_sorted_by(|low, high| low < high)
 }
 
 // Whether each number is below `limit`.
 fn all_below(numbers: &[u16], limit: u16) -> bool
     ensures { Decides result ((i : ℕ) → i < length numbers.now → slice_index numbers.now i < limit) }
 {
-    for number in numbers {
-        if *number >= limit {
-            return false;
-        }
-    }
-    true
+    numbers.iter().all(|number| *number < limit)
 }
 
-// The lowest bin of each level: the bounds below it are so many.
+// The lowest bin of each level up to the last bound.
 fn bins_of_levels(bounds: &[u16]) -> [u8; 1024]
-    requires { (1 ≤ length bounds.now) × (length bounds.now ≤ 256) × ((i : ℕ) → i + 1 < length bounds.now → slice_index bounds.now i < slice_index bounds.now (i + 1)) }
-    ensures { (length result ≡ 1024) × ((l : ℕ) → l ≤ slice_index bounds.now (length bounds.now - 1) → l < 1024 → slice_index result l ≡ prefix_len (λ bound. nat_lt bound l) bounds.now) }
+    requires few { (1 ≤ length bounds.now) × (length bounds.now ≤ 256) }
+    requires rising { (i : ℕ) → i + 1 < length bounds.now → slice_index bounds.now i < slice_index bounds.now (i + 1) }
+    requires levels { (i : ℕ) → i < length bounds.now → slice_index bounds.now i < 1024 }
+    ensures { (l : ℕ) → l ≤ slice_index bounds.now (length bounds.now - 1) → slice_index result l ≡ prefix_len (λ bound. nat_lt bound l) bounds.now }
 {
     let mut of_level = [0; 1024];
-    let mut bin = 0;
-    for level in 0..1024 {
-        of_level[level] = bin;
-        if (bin as usize) + 1 < bounds.len() && bounds[bin as usize] as usize <= level {
-            bin += 1;
-        }
+    let mut first = 0;
+    for (bin, bound) in bounds.iter().enumerate() {
+        let next = usize::from(*bound) + 1;
+        of_level[first..next].fill(bin as u8);
+        first = next;
     }
     of_level
 }
 
-// The numbers, and zeros after them.
-fn padded(numbers: &[u16]) -> [u16; 256]
-    requires { length numbers.now ≤ 256 }
-    ensures width { length result ≡ 256 }
-    ensures numbers { (i : ℕ) → i < length numbers.now → slice_index result i ≡ slice_index numbers.now i }
-    ensures zeros { (i : ℕ) → length numbers.now ≤ i → slice_index result i ≡ 0 }
+// Each bound with its representative.
+fn paired(bounds: &[u16], representatives: &[u16]) -> ArrayVec<Bin, 256>
+    requires few { length bounds.now ≤ 256 }
+    requires as_many { length representatives.now ≡ length bounds.now }
+    ensures bounds { bounds_of result.items ≡ bounds.now }
+    ensures representatives { representatives_of result.items ≡ representatives.now }
 {
-    let mut cells = [0; 256];
-    for (i, number) in numbers.iter().enumerate() {
-        cells[i] = *number;
+    let mut bins = ArrayVec::new();
+    for (bound, representative) in bounds.iter().zip(representatives) {
+        bins.push(Bin {
+            bound: *bound,
+            representative: *representative,
+        });
     }
-    cells
+    bins
 }
 
 impl LevelTable {
@@ -84,9 +78,7 @@ impl LevelTable {
         }
         Some(LevelTable {
             levels,
-            bins: bounds.len() as u16,
-            bounds: padded(bounds),
-            representatives: padded(representatives),
+            bins: paired(bounds, representatives),
             of_level: bins_of_levels(bounds),
         })
     }
@@ -95,9 +87,6 @@ impl LevelTable {
     pub fn fresh() -> LevelTable
         ensures { table_of result ≡ fresh_table }
     {
-        match LevelTable::of(2, &[1], &[0]) {
-            Some(table) => table,
-            None => unreachable(),
-        }
+        LevelTable::of(2, &[1], &[0]).unwrap()
     }
 }

@@ -1,9 +1,10 @@
 // What can be read off a table.
 ghost use Rattle.std.specs.Prelude.{◌≡◌, length};
 ghost use Rattle.tables.specs.Table.{bound_of, representative_of};
+ghost use Rattle.tables.specs.Bins.{bounds_of, representatives_of};
 ghost use Rattle.tables.specs.Meaning.{table_of};
 
-use super::LevelTable;
+use super::{Bin, LevelTable};
 
 impl LevelTable {
     pub fn levels(&self) -> u16
@@ -16,28 +17,30 @@ impl LevelTable {
     pub fn bins(&self) -> u16
         ensures { result ≡ length (table_of self.now).bounds }
     {
-        self.bins
+        self.bins.len() as u16
+    }
+
+    // The bins, from the lowest.
+    pub fn as_slice(&self) -> &[Bin]
+        ensures bounds { bounds_of result.now ≡ (table_of self.now).bounds }
+        ensures representatives { representatives_of result.now ≡ (table_of self.now).representatives }
+    {
+        self.bins.as_slice()
     }
 
     // The highest level of a bin; 0 past the last bin.
     pub fn bound(&self, bin: u16) -> u16
         ensures { result ≡ bound_of (table_of self.now) bin }
     {
-        if bin < self.bins {
-            self.bounds[bin as usize]
-        } else {
-            0
-        }
+        self.bins.get(usize::from(bin)).map_or(0, |bin| bin.bound)
     }
 
     // The grey that stands for a bin; 0 past the last bin.
     pub fn representative(&self, bin: u16) -> u16
         ensures { result ≡ representative_of (table_of self.now) bin }
     {
-        if bin < self.bins {
-            self.representatives[bin as usize]
-        } else {
-            0
-        }
+        self.bins
+            .get(usize::from(bin))
+            .map_or(0, |bin| bin.representative)
     }
 }

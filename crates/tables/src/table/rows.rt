@@ -13,12 +13,7 @@ use refusals::Refusal;
 fn first_no_bin(bins: u16, indices: &[u8]) -> Option<usize>
     ensures { MatchOption result (prefix_len (λ i. nat_lt i bins) indices.now ≡ length indices.now) (λ place. (place ≡ prefix_len (λ i. nat_lt i bins) indices.now) × (place < length indices.now)) }
 {
-    for (place, index) in indices.iter().enumerate() {
-        if *index as u16 >= bins {
-            return Some(place);
-        }
-    }
-    None
+    indices.iter().position(|index| u16::from(*index) >= bins)
 }
 
 impl LevelTable {
@@ -33,7 +28,7 @@ impl LevelTable {
             return Err(Refusal::OutputTooShort { needed: row.len() });
         }
         for (i, pixel) in row.iter().enumerate() {
-            out[i] = self.of_level[*pixel as usize];
+            out[i] = self.of_level[usize::from(*pixel)];
         }
         Ok(row.len())
     }
@@ -42,7 +37,7 @@ impl LevelTable {
     pub fn show(&self, indices: &[u8], out: &mut [u16]) -> Result<usize, Refusal>
         ensures { Wrote (show_row (table_of self.now) indices.now (length out.old)) (greys_of (table_of self.now) indices.now) result out.old out.new }
     {
-        if let Some(place) = first_no_bin(self.bins, indices) {
+        if let Some(place) = first_no_bin(self.bins(), indices) {
             return Err(Refusal::NotABin { place });
         }
         if out.len() < indices.len() {
@@ -50,8 +45,9 @@ impl LevelTable {
                 needed: indices.len(),
             });
         }
+        let bins = self.as_slice();
         for (i, index) in indices.iter().enumerate() {
-            out[i] = self.representatives[*index as usize];
+            out[i] = bins[usize::from(*index)].representative;
         }
         Ok(indices.len())
     }

@@ -1,32 +1,32 @@
-use Rattle.std.proofs.Common.{◌≡◌, ℕ, List, length, take, sym, ap, ◌∙◌, ap₂, arith}
-use Rattle.tables.specs.Table.{given}
-use Rattle.counting.proofs.Rows.{front_is}
-use Rattle.tables.proofs.Bins.{long_rising, long_ends, long_greys, long_lowest}
+use Rattle.std.proofs.Common.{◌≡◌, ℕ, List, length, get_or, sym, subst, ap₂, arith}
+use Rattle.std.proofs.lemmas.List.{length-map}
+use Rattle.tables.specs.Table.{Table, Lawful, given, bin_of}
+use Rattle.tables.specs.Bins.{bounds_of, representatives_of, table_in}
+use Rattle.tables.proofs.Bins.{bound_below}
 use Rattle.tables.proofs.table.LevelTable.of.Goals as goal
+
+pub bins_of_levels-requires-clause-levels : goal.bins_of_levels-requires-clause-levels
+bins_of_levels-requires-clause-levels c i h =
+    let law = c.lawful.ensures.0 c.if-not-lawful.false in
+    omega (arith, law.range, bound_below (given c.args.levels c.args.bounds.now c.args.representatives.now) law i h)
 
 pub invariant_of-result : goal.invariant_of-result
 invariant_of-result c =
-    let t = given c.args.levels c.args.bounds.now c.args.representatives.now in
-    let law = c.lawful.ensures.0 c.if-not-lawful.false in
-    let bounds = c.padded.ensures in
-    let greys = c.padded-2.ensures in
+    let bins = c.paired.result.items in
+    let made : table_in c.args.levels bins ≡ given c.args.levels c.args.bounds.now c.args.representatives.now =
+    ap₂ (λ (bounds greys : List ℕ). given c.args.levels bounds greys) c.paired.ensures.bounds c.paired.ensures.representatives in
+    let rules = c.lawful.ensures.0 c.if-not-lawful.false in
+    let law = subst Lawful (sym made) rules in
+    let bounds : length (bounds_of bins) ≡ length bins = length-map bins (λ bin. bin.bound) in
+    let greys : length (representatives_of bins) ≡ length bins = length-map bins (λ bin. bin.representative) in
     record {
       range = law.range;
-      few = law.few;
-      widths = (bounds.width, greys.width, c.bins_of_levels.ensures.0);
-      rising = long_rising t law c.padded.result c.padded-2.result bounds.width bounds.numbers greys.numbers;
-      ends = long_ends t law c.padded.result c.padded-2.result bounds.width bounds.numbers greys.numbers;
-      greys = long_greys t law c.padded.result c.padded-2.result bounds.width bounds.numbers greys.numbers;
-      past = (λ i h. (bounds.zeros i h, greys.zeros i (omega (arith, law.paired))));
-      lowest = long_lowest t law c.padded.result c.padded-2.result bounds.width bounds.numbers greys.numbers c.bins_of_levels.result c.bins_of_levels.ensures.1;
+      few = (omega (arith, law.few), omega (arith, law.few));
+      rising = (λ i h. law.rising i (omega arith));
+      ends = rw bounds at law.ends;
+      greys = (λ i h. law.greys i (omega arith));
+      lowest = (λ l h. subst (λ (t : Table). get_or c.bins_of_levels.result l 0 ≡ bin_of t l) (sym made) (c.bins_of_levels.ensures l (omega (arith, rules.ends))));
     }
 
 pub returns : goal.returns
-returns c =
-    let law = c.lawful.ensures.0 c.if-not-lawful.false in
-    let bounds = c.args.bounds.now in
-    let greys = c.args.representatives.now in
-    let bounds_front = front_is bounds c.padded.result (omega (arith, law.few, c.padded.ensures.width)) c.padded.ensures.numbers in
-    let greys_front = front_is greys c.padded-2.result (omega (arith, law.few, law.paired, c.padded-2.ensures.width)) c.padded-2.ensures.numbers in
-    let same_length : take (length bounds) c.padded-2.result ≡ take (length greys) c.padded-2.result = ap (λ (n : ℕ). take n c.padded-2.result) (sym law.paired) in
-    ap₂ (λ (bs rs : List ℕ). given c.args.levels bs rs) bounds_front (same_length ∙ greys_front)
+returns c = ap₂ (λ (bounds greys : List ℕ). given c.args.levels bounds greys) c.paired.ensures.bounds c.paired.ensures.representatives

@@ -1,5 +1,5 @@
 use Rattle.tables.proofs.Bins.{Binning}
 use Rattle.tables.proofs.table.makes.bins_of_levels.Given as goal
 
-abbrev pub invariant-loop-level : goal.invariant-loop-level
-invariant-loop-level l = Binning l.bounds l.of_level l.bin l.level
+abbrev pub invariant-loop-bin : goal.invariant-loop-bin
+invariant-loop-bin l = Binning l.bounds l.of_level l.bin l.first
