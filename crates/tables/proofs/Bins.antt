@@ -1,8 +1,7 @@
--- How the bin of each level is found, level by level: the bin goes up by one when its bound is passed.
+-- Each bin in turn fills the levels up to its bound, so that each level has its lowest bin; and a table keeps the rules.
 use Rattle.std.proofs.Common.{◌≡◌, ℕ, ◌+◌, ◌-◌, ◌<◌, ◌≤◌, ltb, List, length, get_or, take, replicate, refl, sym, ap, ◌∙◌, inl, inr, arith, length-append, length-drop}
-use Rattle.std.specs.List.{prefix_len}
 use borrow.Rule.Slice.PartMut.{put_mid}
-use Rattle.std.specs.List.{AllAdjacentBelow}
+use Rattle.std.specs.List.{prefix_len, AllAdjacentBelow}
 use Rattle.std.proofs.lemmas.List.Sorted.{IsNonDecreasingBy-from_all_adjacent}
 use Rattle.std.proofs.lemmas.List.Sums.{prefix_len_is}
 use Rattle.std.proofs.lemmas.Bool.{lt-ltb, le-ltb, cases_lt, cases_eq}

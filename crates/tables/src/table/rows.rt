@@ -1,4 +1,5 @@
-// Rows of pixels turned into bin indices, and indices into greys.
+// Rows of pixels turned into bin indices, and indices into greys. After a loop over `iter_mut` a proof knows none of the
+// cells, so outputs are written by index. Indexing and showing share no function: its contract would be longer than both.
 ghost use Rattle.std.specs.Prelude.{◌≡◌, ℕ, ◌<◌, length, MatchOption, nat_lt};
 ghost use Rattle.std.specs.List.{prefix_len};
 ghost use Rattle.counting.specs.Outputs.{Wrote};
@@ -68,6 +69,6 @@ impl LevelTable {
             return Err(Refusal::OutputTooShort { needed: row.len() });
         }
         let written = self.index(row, indices)?;
-        self.show(&indices[0..written], greys)
+        self.show(&indices[..written], greys)
     }
 }

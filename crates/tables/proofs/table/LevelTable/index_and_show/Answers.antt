@@ -22,7 +22,7 @@ returns c =
     let row = c.args.row.now in
     let index = c.in_ok-written.ensures in
     let fits = none_fits _ (length row) (length c.args.indices.now) _ (prefix_len-le-length _ row) index.0 in
-    let part : take (c.in_ok-written.written - 0) c.index.new.out ≡ indexed (table_of self) row =
-    ap (λ (out : List ℕ). take (c.in_ok-written.written - 0) out) index.2 ∙ take_at (indexed (table_of self) row) _ _ (omega (arith, index.1)) in
+    let part : take c.in_ok-written.written c.index.new.out ≡ indexed (table_of self) row =
+    ap (λ (out : List ℕ). take c.in_ok-written.written out) index.2 ∙ take_at (indexed (table_of self) row) _ _ (omega (arith, index.1)) in
     reshown (table_of self) (lawful_table self) row fits.0 c.show.result c.args.indices.now c.index.new.out c.args.greys.now c.show.new.out _
     fits.1 c.if-greys-row.false index.2 part c.show.ensures
