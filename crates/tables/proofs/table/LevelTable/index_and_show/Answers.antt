@@ -1,20 +1,11 @@
-use Rattle.std.proofs.Common.{◌≡◌, ℕ, ◌-◌, List, length, take, ap, ◌∙◌, arith, rules}
+use Rattle.std.proofs.Common.{◌≡◌, ℕ, List, length, take, ap, ◌∙◌, arith}
 use Rattle.std.proofs.lemmas.List.Sums.{prefix_len-le-length}
-use Rattle.std.proofs.lemmas.List.{length-map, take_at}
-use Rattle.tables.specs.Table.{bin_of}
+use Rattle.std.proofs.lemmas.List.{take_at}
 use Rattle.tables.specs.Meaning.{table_of}
 use Rattle.tables.specs.Rows.{indexed}
 use Rattle.tables.proofs.Bins.{lawful_table}
 use Rattle.tables.proofs.Rows.{none_fits, reshown}
 use Rattle.tables.proofs.table.LevelTable.index_and_show.Goals as goal
-
-pub slice_bounds-show-end : goal.slice_bounds-show-end
-slice_bounds-show-end c =
-    let row = c.args.row.now in
-    let index = c.in_ok-written.ensures in
-    let fits = none_fits _ (length row) (length c.args.indices.now) _ (prefix_len-le-length _ row) index.0 in
-    let long = length-map row (bin_of (table_of c.args.self.now)) in
-    search rules
 
 pub returns : goal.returns
 returns c =
