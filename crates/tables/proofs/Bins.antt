@@ -7,7 +7,7 @@ use Rattle.std.proofs.lemmas.List.Sums.{prefix_len_is}
 use Rattle.std.proofs.lemmas.Bool.{lt-ltb, le-ltb, cases_lt, cases_eq}
 use Rattle.std.proofs.lemmas.List.{length-map, length-take-le, get_or-take, get_or_append_left, get_or-append_right, get_or-replicate, get_or_default, length-replicate}
 use Rattle.tables.specs.Table.{Table, Lawful}
-use Rattle.tables.specs.Bins.{bounds_of, representatives_of}
+use Rattle.tables.specs.Bins.{bounds_in, representatives_in}
 use Rattle.tables.specs.Meaning.{table_of}
 use Rattle.tables.specs.declared.table.LevelTable.{LevelTable}
 
@@ -64,8 +64,8 @@ bound_below t law i h =
 -- a table that exists keeps the rules
 pub lawful_table : (t : LevelTable) → Lawful (table_of t)
 lawful_table t =
-    let bounds : length (bounds_of t.bins.items) ≡ length t.bins.items = length-map t.bins.items (λ bin. bin.bound) in
-    let greys : length (representatives_of t.bins.items) ≡ length t.bins.items = length-map t.bins.items (λ bin. bin.representative) in
+    let bounds : length (bounds_in t.bins.items) ≡ length t.bins.items = length-map t.bins.items (λ bin. bin.bound) in
+    let greys : length (representatives_in t.bins.items) ≡ length t.bins.items = length-map t.bins.items (λ bin. bin.representative) in
     record {
       range = t.range;
       few = (omega (arith, t.few), omega (arith, t.few));

@@ -2,7 +2,7 @@
 ghost use Rattle.std.specs.Prelude.{◌≡◌, ℕ, ◌+◌, ◌-◌, ◌<◌, ◌≤◌, T, length, Decides, MatchOption, nat_lt, slice_index};
 ghost use Rattle.std.specs.List.{prefix_len};
 ghost use Rattle.tables.specs.Table.{Lawful, given, fresh_table};
-ghost use Rattle.tables.specs.Bins.{bounds_of, representatives_of};
+ghost use Rattle.tables.specs.Bins.{bounds_in, representatives_in};
 ghost use Rattle.tables.specs.Meaning.{table_of};
 
 use super::{Bin, LevelTable};
@@ -55,8 +55,8 @@ fn bins_of_levels(bounds: &[u16]) -> [u8; 1024]
 fn paired(bounds: &[u16], representatives: &[u16]) -> ArrayVec<Bin, 256>
     requires few { length bounds.now ≤ 256 }
     requires as_many { length representatives.now ≡ length bounds.now }
-    ensures bounds { bounds_of result.items ≡ bounds.now }
-    ensures representatives { representatives_of result.items ≡ representatives.now }
+    ensures bounds { bounds_in result.items ≡ bounds.now }
+    ensures representatives { representatives_in result.items ≡ representatives.now }
 {
     let mut bins = ArrayVec::new();
     for (bound, representative) in bounds.iter().zip(representatives) {

@@ -1,7 +1,7 @@
 // What can be read off a table.
 ghost use Rattle.std.specs.Prelude.{◌≡◌, length};
 ghost use Rattle.tables.specs.Table.{bound_of, representative_of};
-ghost use Rattle.tables.specs.Bins.{bounds_of, representatives_of};
+ghost use Rattle.tables.specs.Bins.{bounds_in, representatives_in};
 ghost use Rattle.tables.specs.Meaning.{table_of};
 
 use super::{Bin, LevelTable};
@@ -22,8 +22,8 @@ impl LevelTable {
 
     // The bins, from the lowest.
     pub fn as_slice(&self) -> &[Bin]
-        ensures bounds { bounds_of result.now ≡ (table_of self.now).bounds }
-        ensures representatives { representatives_of result.now ≡ (table_of self.now).representatives }
+        ensures bounds { bounds_in result.now ≡ (table_of self.now).bounds }
+        ensures representatives { representatives_in result.now ≡ (table_of self.now).representatives }
     {
         self.bins.as_slice()
     }

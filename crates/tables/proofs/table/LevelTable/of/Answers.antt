@@ -1,7 +1,7 @@
 use Rattle.std.proofs.Common.{◌≡◌, ℕ, List, length, get_or, sym, subst, ap₂, arith}
 use Rattle.std.proofs.lemmas.List.{length-map}
 use Rattle.tables.specs.Table.{Table, Lawful, given, bin_of}
-use Rattle.tables.specs.Bins.{bounds_of, representatives_of, table_in}
+use Rattle.tables.specs.Bins.{bounds_in, representatives_in, table_in}
 use Rattle.tables.proofs.Bins.{bound_below}
 use Rattle.tables.proofs.table.LevelTable.of.Goals as goal
 
@@ -17,8 +17,8 @@ invariant_of-result c =
     ap₂ (λ (bounds greys : List ℕ). given c.args.levels bounds greys) c.paired.ensures.bounds c.paired.ensures.representatives in
     let rules = c.lawful.ensures.0 c.if-not-lawful.false in
     let law = subst Lawful (sym made) rules in
-    let bounds : length (bounds_of bins) ≡ length bins = length-map bins (λ bin. bin.bound) in
-    let greys : length (representatives_of bins) ≡ length bins = length-map bins (λ bin. bin.representative) in
+    let bounds : length (bounds_in bins) ≡ length bins = length-map bins (λ bin. bin.bound) in
+    let greys : length (representatives_in bins) ≡ length bins = length-map bins (λ bin. bin.representative) in
     record {
       range = law.range;
       few = (omega (arith, law.few), omega (arith, law.few));

@@ -3,7 +3,7 @@ use Rattle.std.specs.List.{prefix_len}
 use Rattle.std.proofs.lemmas.List.{length-map, get_or-map}
 use Rattle.counting.proofs.Outputs.{fill_more, fill_all}
 use Rattle.tables.specs.Table.{representative_of}
-use Rattle.tables.specs.Bins.{bounds_of}
+use Rattle.tables.specs.Bins.{bounds_in}
 use Rattle.tables.specs.Rows.{first_no_bin}
 use Rattle.tables.specs.Meaning.{table_of}
 use Rattle.tables.proofs.Rows.{fits_room, room_enough, all_below}
@@ -13,7 +13,7 @@ pub bounds-bins-from : goal.bounds-bins-from
 bounds-bins-from c =
     let bins = c.as_slice-bins.result.now in
     let below = all_below c.bins.result c.args.indices.now c.in_default.ensures c.loop-i.i (omega arith) in
-    let many : length (bounds_of bins) ≡ length bins = length-map bins (λ bin. bin.bound) in
+    let many : length (bounds_in bins) ≡ length bins = length-map bins (λ bin. bin.bound) in
     omega (arith, ap length c.as_slice-bins.ensures.bounds, c.bins.ensures)
 
 pub loop-i-preserved : goal.loop-i-preserved
@@ -22,7 +22,7 @@ loop-i-preserved c =
     let t = table_of c.args.self.now in
     let indices = c.args.indices.now in
     let below = all_below c.bins.result indices c.in_default.ensures c.loop-i.i (omega arith) in
-    let many : length (bounds_of bins) ≡ length bins = length-map bins (λ bin. bin.bound) in
+    let many : length (bounds_in bins) ≡ length bins = length-map bins (λ bin. bin.bound) in
     let inside : c.from.result < length bins = omega (arith, ap length c.as_slice-bins.ensures.bounds, c.bins.ensures) in
     let looked = sym (get_or-map (λ bin. bin.representative) bins c.from.result (record { bound = 0; representative = 0 }) 0 inside)
     ∙ ap₂ (λ (greys : List ℕ) (index : ℕ). get_or greys index 0) c.as_slice-bins.ensures.representatives c.from.ensures in
