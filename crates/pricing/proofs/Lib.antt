@@ -1,4 +1,3 @@
-pub mod WeightReads
 pub mod Costs
 pub mod Trials
 pub mod PlainSums

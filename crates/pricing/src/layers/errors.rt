@@ -2,7 +2,6 @@
 ghost use Rattle.std.specs.Prelude.{◌≡◌, min};
 ghost use Rattle.pricing.specs.Errors.{SameErrors};
 ghost use Rattle.pricing.specs.Measures.{weighed, allowed, capped};
-ghost use Rattle.pricing.specs.Weights.{weights_of};
 ghost use Rattle.pricing.specs.LayerLaws.{weighed_fair, allowed_fair, capped_fair};
 
 use super::allowance::Allowance;
@@ -11,13 +10,13 @@ use super::weight::Weight;
 use crate::measure::Measure;
 
 impl<M: Measure> Measure for Weight<M> {
-    ghost error = { λ m. weighed (weights_of m.weights) (M.Measure.error m.measure) };
+    ghost error = { λ m. weighed m.weights (M.Measure.error m.measure) };
 
     ghost fair = { λ m. weighed_fair _ _ (M.Measure.fair m.measure) };
 
     fn error(&mut self, k: u16, r: u16) -> u32
-        ensures value { result ≡ weighed (weights_of self.old.weights) (M.error self.old.measure) (min k 1023) (min r 1023) }
-        ensures same { SameErrors (weighed (weights_of self.new.weights) (M.error self.new.measure)) (weighed (weights_of self.old.weights) (M.error self.old.measure)) }
+        ensures value { result ≡ weighed self.old.weights (M.error self.old.measure) (min k 1023) (min r 1023) }
+        ensures same { SameErrors (weighed self.new.weights (M.error self.new.measure)) (weighed self.old.weights (M.error self.old.measure)) }
         ensures kept { self.new.weights ≡ self.old.weights }
     {
         let weight = u32::from(self.weights.weight(k.min(1023)));

@@ -1,7 +1,6 @@
 // Levels whose errors weigh more, or less, than others.
 ghost use Rattle.std.specs.Prelude.{◌≡◌};
 ghost use Rattle.pricing.specs.Measures.{weighed};
-ghost use Rattle.pricing.specs.Weights.{weights_of};
 
 use super::weight_list::WeightList;
 use crate::measure::Measure;
@@ -15,7 +14,7 @@ pub struct Weight<M> {
 
 impl<M: Measure> Weight<M> {
     pub fn new(measure: M, weights: WeightList) -> Weight<M>
-        ensures { ⟦<Weight<M> as Measure>⟧.error result ≡ weighed (weights_of weights) (M.error measure) }
+        ensures { ⟦<Weight<M> as Measure>⟧.error result ≡ weighed weights (M.error measure) }
     {
         Weight { measure, weights }
     }
