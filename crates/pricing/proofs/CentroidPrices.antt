@@ -9,10 +9,10 @@ use Rattle.pricing.specs.Prices.{InSpan, Priceless, PricedAt, range_tally}
 use Rattle.pricing.specs.declared.tallies.total.Total.{Total}
 use Rattle.pricing.specs.KindLaws.{same_total}
 use Rattle.pricing.specs.ErrorLaws.{squared_fair}
-use Rattle.pricing.proofs.PlainSums.{plain_none, costs_plain}
+use Rattle.pricing.proofs.PlainSums.{costs_plain}
 use Rattle.pricing.proofs.Centroids.{cost_is, none_counted, Nearest, nearest_is, higher, least, from_low, to_high}
 
-module _ (g : Ledger) (a b p l s : ℕ) (A : Added g a (suc b - a) p l s) where
+module _ (g : Ledger) (a b p l s : ℕ) (ordered : a ≤ b) (A : Added g a (suc b - a) p l s) where
   -- no pixels, no price
   pub no_pixels_priceless : p ≡ 0 → Priceless g a b
   no_pixels_priceless z = inr (inr (λ k h m c. none_counted g a (suc b - a) k (sym A.counts ∙ z) h (omega arith) c))
@@ -22,11 +22,6 @@ module _ (g : Ledger) (a b p l s : ℕ) (A : Added g a (suc b - a) p l s) where
   cost_from c r e =
       let e2 : c + 2 * (r * level_sum g a (suc b - a)) ≡ square_sum g a (suc b - a) + pixel_sum g a (suc b - a) * (r * r) = rw (A.counts, A.adds, A.adds_squares) at e in
       omega (arith, e2, cost_is g a (suc b - a) r)
-
-  pub cost_within : (r : ℕ) → 2 * (r * l) ≤ s + p * (r * r)
-  cost_within r =
-      let e : plain g (λ k. squared k r) a (suc b - a) + 2 * (r * l) ≡ s + p * (r * r) = rw (← A.counts, ← A.adds, ← A.adds_squares) at (cost_is g a (suc b - a) r) in
-      omega (arith, e)
 
   -- what showing the range as a level of it costs
   costs_at : (q : ℕ) → total_of g < 2 ^ 32 → b < 1024 → q ≤ b → (range_tally total_ops squared g a b q).sum ≡ plain g (λ k. squared k q) a (suc b - a)
@@ -41,14 +36,11 @@ module _ (g : Ledger) (a b p l s : ℕ) (A : Added g a (suc b - a) p l s) where
     counted : 0 < pixel_sum g a (suc b - a)
     counted = omega (arith, A.counts)
 
-    ordered : a ≤ b
-    ordered = elim (cases_lt b a) [ inl h ↦ absurd (omega (arith, plain_none g (λ k. 1) a (suc b) h, counted)) | inr h ↦ h ]
-
     pub centroid_spans : InSpan g a b r
     centroid_spans =
         let low = from_low g a (suc b - a) r nearest counted in
         let high = to_high g a (suc b - a) r nearest counted in
-        (low, (high.0, high.1, omega (arith, high.2, ordered), high.3))
+        (low, (high.0, high.1, omega (arith, high.2), high.3))
 
     pub centroid_priced : (t : Total) → total_of g < 2 ^ 32 → b < g.levels → g.levels ≤ 1024 → t.sum + 2 * (r * l) ≡ s + p * (r * r) → PricedAt total_ops squared g a b r t
     centroid_priced t few w kept e =

@@ -1,5 +1,5 @@
 -- The cost of a range of levels, one level at a time, and what it depends on.
-use Rattle.std.proofs.Common.{◌≡◌, ℕ, zero, suc, ◌+◌, ◌-◌, ◌<◌, ◌≤◌, min, ltb, sym, refl, ap, ◌∙◌, ap₂, arith}
+use Rattle.std.proofs.Common.{◌≡◌, ℕ, zero, suc, ◌+◌, ◌-◌, ◌<◌, ◌≤◌, min, ltb, sym, refl, ap, ◌∙◌, ap₂, add-one, arith}
 use Rattle.std.proofs.lemmas.Bool.{lt-ltb, le-ltb, cond-true, cond-false}
 use Rattle.counting.specs.Ledger.{Ledger, pixels_at}
 use Rattle.pricing.specs.Tallies.{Ops, Laws}
@@ -7,39 +7,31 @@ use Rattle.pricing.specs.Errors.{SameErrors}
 use Rattle.pricing.specs.Prices.{charged, costs, range_tally}
 
 -- no levels cost nothing
-pub costs_none : {C : Type 0} (o : Ops C) (g : Ledger) (e : ℕ → ℕ) (a k : ℕ) → k ≤ a → costs o g e a (k - a) ≡ o.neutral
+pub costs_none : {C : Type 0} (o : Ops C) (g : Ledger) (e : ℕ → ℕ) (a : ℕ) → costs o g e a 0 ≡ o.neutral
 unfolding costs
-costs_none o g e a k h = let z : k - a ≡ 0 = omega arith in ap (costs o g e a) z
+costs_none o g e a = refl
 
 -- one level more
-pub costs_next : {C : Type 0} (o : Ops C) (g : Ledger) (e : ℕ → ℕ) (a k : ℕ) → a ≤ k →
-    costs o g e a (k + 1 - a) ≡ o.join (charged o (pixels_at g k) (e k)) (costs o g e a (k - a))
+costs_next : {C : Type 0} (o : Ops C) (g : Ledger) (e : ℕ → ℕ) (a d : ℕ) → costs o g e a (d + 1) ≡ o.join (charged o (pixels_at g (a + d)) (e (a + d))) (costs o g e a d)
 unfolding costs
-costs_next o g e a k h =
-    let step : k + 1 - a ≡ suc (k - a) = omega arith in
-    let here : a + (k - a) ≡ k = omega arith in
-    ap (costs o g e a) step ∙ ap (λ (l : ℕ). o.join (charged o (pixels_at g l) (e l)) (costs o g e a (k - a))) here
+costs_next o g e a d = rw add-one refl
 
 -- one level more that has pixels
-pub costs_counted : {C : Type 0} (o : Ops C) (g : Ledger) (e : ℕ → ℕ) (a k n x : ℕ) (c t u : C) → a ≤ k →
-    n ≡ pixels_at g k → 0 < n → x ≡ e k → c ≡ o.charge n x → t ≡ costs o g e a (k - a) → u ≡ o.join c t → u ≡ costs o g e a (k + 1 - a)
-costs_counted {C} o g e a k n x c t u h is some ex ch so joined =
+pub costs_counted : {C : Type 0} (o : Ops C) (g : Ledger) (e : ℕ → ℕ) (a d n x : ℕ) (c t u : C) →
+    n ≡ pixels_at g (a + d) → 0 < n → x ≡ e (a + d) → c ≡ o.charge n x → t ≡ costs o g e a d → u ≡ o.join c t → u ≡ costs o g e a (d + 1)
+costs_counted {C} o g e a d n x c t u is some ex ch so joined =
     joined
-    ∙ ap₂ (λ (p q : C). o.join p q) (ch ∙ ap₂ (λ (m y : ℕ). o.charge m y) is ex ∙ sym (cond-true (ltb 0 (pixels_at g k)) _ _ (lt-ltb 0 (pixels_at g k) (omega arith)))) so
-    ∙ sym (costs_next o g e a k h)
+    ∙ ap₂ (λ (p q : C). o.join p q) (ch ∙ ap₂ (λ (m y : ℕ). o.charge m y) is ex ∙ sym (cond-true (ltb 0 (pixels_at g (a + d))) _ _ (lt-ltb 0 (pixels_at g (a + d)) (omega arith)))) so
+    ∙ sym (costs_next o g e a d)
 
 -- one level more that has none
-pub costs_uncounted : {C : Type 0} (o : Ops C) → Laws o → (g : Ledger) (e : ℕ → ℕ) (a k n : ℕ) (t : C) → a ≤ k →
-    n ≡ pixels_at g k → n ≤ 0 → t ≡ costs o g e a (k - a) → t ≡ costs o g e a (k + 1 - a)
-costs_uncounted {C} o L g e a k n t h is none so =
+pub costs_uncounted : {C : Type 0} (o : Ops C) → Laws o → (g : Ledger) (e : ℕ → ℕ) (a d n : ℕ) (t : C) →
+    n ≡ pixels_at g (a + d) → n ≤ 0 → t ≡ costs o g e a d → t ≡ costs o g e a (d + 1)
+costs_uncounted {C} o L g e a d n t is none so =
     so
-    ∙ sym (L.commutative o.neutral (costs o g e a (k - a)) ∙ L.neutral_joins (costs o g e a (k - a)))
-    ∙ ap (λ (p : C). o.join p (costs o g e a (k - a))) (sym (cond-false (ltb 0 (pixels_at g k)) _ _ (le-ltb 0 (pixels_at g k) (omega arith))))
-    ∙ sym (costs_next o g e a k h)
-
--- every level of the range
-pub costs_all : {C : Type 0} (o : Ops C) (error : ℕ → ℕ → ℕ) (g : Ledger) (a b k r : ℕ) (t : C) → k - a ≡ suc b - a → t ≡ costs o g (λ l. error l r) a (k - a) → t ≡ range_tally o error g a b r
-costs_all o error g a b k r t e so = so ∙ ap (costs o g (λ l. error l r) a) e
+    ∙ sym (L.commutative o.neutral (costs o g e a d) ∙ L.neutral_joins (costs o g e a d))
+    ∙ ap (λ (p : C). o.join p (costs o g e a d)) (sym (cond-false (ltb 0 (pixels_at g (a + d))) _ _ (le-ltb 0 (pixels_at g (a + d)) (omega arith))))
+    ∙ sym (costs_next o g e a d)
 
 -- costs depend on no more than the errors of the levels of the range
 pub costs_same : {C : Type 0} (o : Ops C) (g : Ledger) (e f : ℕ → ℕ) (a d : ℕ) → ((k : ℕ) → k < a + d → e k ≡ f k) → costs o g e a d ≡ costs o g f a d

@@ -1,5 +1,5 @@
 -- Plain sums over a range: one level more, their bounds, and that a Total is one.
-use Rattle.std.proofs.Common.{◌≡◌, ℕ, zero, suc, ◌+◌, ◌-◌, ◌*◌, ◌^◌, ◌<◌, ◌≤◌, min, ltb, List, length, get_or, take, sum, sym, refl, ap, ◌∙◌, inl, inr, mul-le-mul_left, zero-mul, arith}
+use Rattle.std.proofs.Common.{◌≡◌, ℕ, zero, suc, ◌+◌, ◌*◌, ◌^◌, ◌<◌, ◌≤◌, min, ltb, List, length, get_or, take, sum, sym, refl, ap, ◌∙◌, inl, inr, mul-le-mul_left, zero-mul, add-one, arith}
 use Rattle.std.proofs.lemmas.List.{take_all, get_or_past}
 use Rattle.std.proofs.lemmas.List.Sums.{sum_by_more, sum_by-take-le}
 use Rattle.std.proofs.lemmas.Bool.{cases_lt, cond_both, ltb-false}
@@ -9,17 +9,10 @@ use Rattle.pricing.specs.Plain.{plain, pixel_sum}
 use Rattle.pricing.specs.Prices.{charged, costs}
 use Rattle.pricing.specs.declared.tallies.total.Total.{Total}
 
-pub plain_none : (g : Ledger) (e : ℕ → ℕ) (a k : ℕ) → k ≤ a → plain g e a (k - a) ≡ 0
-unfolding plain
-plain_none g e a k h = let z : k - a ≡ 0 = omega arith in ap (plain g e a) z
-
 -- one level more
-pub plain_next : (g : Ledger) (e : ℕ → ℕ) (a k : ℕ) → a ≤ k → plain g e a (k + 1 - a) ≡ plain g e a (k - a) + pixels_at g k * e k
+pub plain_next : (g : Ledger) (e : ℕ → ℕ) (a d : ℕ) → plain g e a (d + 1) ≡ plain g e a d + pixels_at g (a + d) * e (a + d)
 unfolding plain
-plain_next g e a k h =
-    let step : k + 1 - a ≡ suc (k - a) = omega arith in
-    let here : a + (k - a) ≡ k = omega arith in
-    ap (plain g e a) step ∙ ap (λ (l : ℕ). pixels_at g l * e l + plain g e a (k - a)) here ∙ (omega arith)
+plain_next g e a d = rw add-one (omega arith)
 
 -- the pixels of a range are among all pixels
 front_more : (xs : List ℕ) (i : ℕ) → sum (take (i + 1) xs) ≡ sum (take i xs) + get_or xs i 0

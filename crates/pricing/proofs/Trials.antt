@@ -41,24 +41,24 @@ module _ {C : Type 0} (o : Ops C) (L : Laws o) (t : ℕ → C) where
     highest = (λ q a b k. elim (cases_eq q r) [ inl same ↦ both_ways _ e (rw same at k) | inr apart ↦ B.highest q a (omega arith) k ]);
   }
 
--- the turn of a loop that tries one level after another: `least` is the best tally so far, at the level `best`
-pub record Best {C : Type 0} (o : Ops C) (t : ℕ → C) (low r best : ℕ) (least : C) : Type 0 where
-  pub lowest : LowestAt o t low (r - 1) best
-  pub tally : least ≡ t best
+-- the best of the levels from `low` on that are below r, with its tally
+pub record Best {C : Type 0} (o : Ops C) (t : ℕ → C) (low r : ℕ) (best : ℕ × C) : Type 0 where
+  pub lowest : LowestAt o t low (r - 1) best.0
+  pub tally : best.1 ≡ t best.0
 
-best_more : {C : Type 0} (o : Ops C) → Laws o → (t : ℕ → C) (low r best best' : ℕ) (x least least' : C) (b : Bool) → low < r →
-    Best o t low r best least → x ≡ t r → b ≡ o.not_above x least → best' ≡ cond b r best → least' ≡ cond b x least → Best o t low (r + 1) best' least'
-best_more {C} o L t low r best best' x least least' b h B e s p q = turn b s p q
+best_more : {C : Type 0} (o : Ops C) → Laws o → (t : ℕ → C) (low r : ℕ) (best then : ℕ × C) (x : C) → low < r →
+    Best o t low r best → x ≡ t r → then ≡ cond (o.not_above x best.1) (r, x) best → Best o t low (r + 1) then
+best_more {C} o L t low r best then x h B e p = turn (o.not_above x best.1) test p
   where
-    test : o.not_above x least ≡ o.not_above (t r) (t best)
+    test : o.not_above x best.1 ≡ o.not_above (t r) (t best.0)
     test = ap₂ (λ (u v : C). o.not_above u v) e B.tally
 
-    turn : (b : Bool) → b ≡ o.not_above x least → best' ≡ cond b r best → least' ≡ cond b x least → Best o t low (r + 1) best' least'
-    turn true s p q = record { lowest = rw p (lowest_takes o L t low r best h B.lowest (sym (s ∙ test))); tally = q ∙ e ∙ ap t (sym p) }
-    turn false s p q = record { lowest = rw p (lowest_keeps o L t low r best h B.lowest (sym (s ∙ test))); tally = q ∙ B.tally ∙ ap t (sym p) }
+    turn : (b : Bool) → b ≡ o.not_above (t r) (t best.0) → then ≡ cond b (r, x) best → Best o t low (r + 1) then
+    turn true s p = rw p (record { lowest = lowest_takes o L t low r best.0 h B.lowest (sym s); tally = e })
+    turn false s p = rw p (record { lowest = lowest_keeps o L t low r best.0 h B.lowest (sym s); tally = B.tally })
 
 -- the first level tried
-best_none : {C : Type 0} (o : Ops C) → Laws o → (t : ℕ → C) (low : ℕ) (x : C) → x ≡ t low → Best o t low (low + 1) low x
+best_none : {C : Type 0} (o : Ops C) → Laws o → (t : ℕ → C) (low : ℕ) (x : C) → x ≡ t low → Best o t low (low + 1) (low, x)
 best_none o L t low x e = record { lowest = lowest_none o L t low; tally = e }
 
 -- the lowest of tallies that are equal
@@ -71,26 +71,26 @@ lowest_same o t u low high r same B = record {
 }
 
 -- every level tried
-best_all : {C : Type 0} (o : Ops C) (t u : ℕ → C) (low high r best : ℕ) (x : C) → r ≡ high + 1 → ((q : ℕ) → q ≤ high → t q ≡ u q) → Best o t low r best x →
-    LowestAt o u low high best × (x ≡ u best)
-best_all o t u low high r best x e same B =
+best_all : {C : Type 0} (o : Ops C) (t u : ℕ → C) (low high r : ℕ) (best : ℕ × C) → r ≡ high + 1 → ((q : ℕ) → q ≤ high → t q ≡ u q) → Best o t low r best →
+    LowestAt o u low high best.0 × (best.1 ≡ u best.0)
+best_all o t u low high r best e same B =
     let end : r - 1 ≡ high = omega arith in
-    let L = lowest_same o t u low high best same (rw end at B.lowest) in
-    (L, B.tally ∙ same best L.to)
+    let L = lowest_same o t u low high best.0 same (rw end at B.lowest) in
+    (L, B.tally ∙ same best.0 L.to)
 
 -- the same over the tallies of a range, as a measure that may keep notes tells them: what it means stays
 module _ {C : Type 0} (o : Ops C) (L : Laws o) (g : Ledger) (a b : ℕ) (h : a ≤ b) (w : b < 1024) where
   pub tried_none : (error later : ℕ → ℕ → ℕ) (low : ℕ) (x : C) → SameErrors later error → low < 1024 → x ≡ range_tally o error g a b low →
-      Best o (range_tally o later g a b) low (low + 1) low x
+      Best o (range_tally o later g a b) low (low + 1) (low, x)
   tried_none error later low x same l e = best_none o L (range_tally o later g a b) low x (e ∙ sym (range_same o later error g a b low same h w l))
 
-  pub tried_more : (error later : ℕ → ℕ → ℕ) (low r best best' : ℕ) (x least least' : C) (t : Bool) → low < r → r < 1024 → SameErrors later error →
-      Best o (range_tally o error g a b) low r best least → x ≡ range_tally o later g a b r → t ≡ o.not_above x least → best' ≡ cond t r best → least' ≡ cond t x least →
-      Best o (range_tally o error g a b) low (r + 1) best' least'
-  tried_more error later low r best best' x least least' t l m same B e s p q =
-      best_more o L (range_tally o error g a b) low r best best' x least least' t l B (e ∙ range_same o later error g a b r same h w m) s p q
+  pub tried_more : (error later : ℕ → ℕ → ℕ) (low r : ℕ) (best then : ℕ × C) (x : C) → low < r → r < 1024 → SameErrors later error →
+      Best o (range_tally o error g a b) low r best → x ≡ range_tally o later g a b r → then ≡ cond (o.not_above x best.1) (r, x) best →
+      Best o (range_tally o error g a b) low (r + 1) then
+  tried_more error later low r best then x l m same B e p =
+      best_more o L (range_tally o error g a b) low r best then x l B (e ∙ range_same o later error g a b r same h w m) p
 
-  pub tried_all : (error later : ℕ → ℕ → ℕ) (low high r best : ℕ) (x : C) → high < 1024 → r ≡ high + 1 → SameErrors later error → Best o (range_tally o later g a b) low r best x →
-      LowestAt o (range_tally o error g a b) low high best × (x ≡ range_tally o error g a b best)
-  tried_all error later low high r best x l e same B =
-      best_all o (range_tally o later g a b) (range_tally o error g a b) low high r best x e (λ q m. range_same o later error g a b q same h w (omega arith)) B
+  pub tried_all : (error later : ℕ → ℕ → ℕ) (low high r : ℕ) (best : ℕ × C) → high < 1024 → r ≡ high + 1 → SameErrors later error → Best o (range_tally o later g a b) low r best →
+      LowestAt o (range_tally o error g a b) low high best.0 × (best.1 ≡ range_tally o error g a b best.0)
+  tried_all error later low high r best l e same B =
+      best_all o (range_tally o later g a b) (range_tally o error g a b) low high r best e (λ q m. range_same o later error g a b q same h w (omega arith)) B

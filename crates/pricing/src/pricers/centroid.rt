@@ -4,7 +4,7 @@ ghost use Rattle.pricing.specs.Kinds.{total_ops};
 ghost use Rattle.pricing.specs.Measures.{squared};
 ghost use Rattle.pricing.specs.Prices.{Priced};
 
-use super::sums::add_up;
+use super::level_range::LevelRange;
 use crate::tallies::Total;
 use counting::Histogram;
 
@@ -13,14 +13,9 @@ use counting::Histogram;
 pub(super) fn centroid(histogram: &Histogram, a: u16, b: u16) -> Option<(u16, Total)>
     ensures { Priced total_ops squared (ledger_of histogram.now) a b result }
 {
-    if a > b || b >= histogram.levels() {
-        return None;
-    }
-    let sums = add_up(histogram, a, b);
-    if sums.pixels == 0 {
-        return None;
-    }
-    let r = sums.nearest();
+    let range = LevelRange::of(histogram, a, b)?;
+    let sums = range.sums();
+    let r = sums.nearest()?;
     let sum = sums.squared_errors(r);
-    Some((r as u16, Total { sum }))
+    Some((r, Total { sum }))
 }

@@ -1,8 +1,8 @@
 // The pricers.
 mod centroid;
 mod centroid_pricer;
+mod level_range;
 mod prices;
-mod spans;
 mod sums;
 mod trial;
 mod trial_pricer;

@@ -1,63 +1,53 @@
 // Pricing by trying each representative, for any measure and any tally.
-ghost use Rattle.std.specs.Prelude.{◌≡◌, ◌<◌, ◌≤◌};
+ghost use Rattle.std.specs.Prelude.{◌≡◌, ◌<◌, ◌≤◌, if◌then◌else◌};
 ghost use Rattle.counting.specs.Meaning.{ledger_of};
 ghost use Rattle.pricing.specs.Errors.{SameErrors};
 ghost use Rattle.pricing.specs.Prices.{range_tally, Priced};
 ghost use Rattle.pricing.specs.Spans.{LowestAt};
 
-use super::spans::{highest_counted, lowest_counted};
+use super::level_range::LevelRange;
 use crate::measure::Measure;
 use crate::tally::Tally;
 use counting::Histogram;
 
-// The tally of showing the levels from `a` to `b` as `r`.
-fn range_tally<M: Measure, T: Tally>(
-    measure: &mut M,
-    histogram: &Histogram,
-    a: u16,
-    b: u16,
-    r: u16,
-) -> T
-    requires { (a ≤ b) × (b < 1024) × (r < 1024) }
-    ensures tally { result ≡ range_tally T.ops (M.error measure.old) (ledger_of histogram.now) a b r }
-    ensures same { SameErrors (M.error measure.new) (M.error measure.old) }
+// The better of two levels, each with the tally of showing a range as it. Of equal tallies the later wins.
+fn better<T: Tally>(best: (u16, T), next: (u16, T)) -> (u16, T)
+    ensures { result ≡ (if T.ops.not_above next.1 best.1 then next else best) }
 {
-    let mut tally = T::neutral();
-    for k in a..b + 1 {
-        let pixels = histogram.pixels_at(k);
-        if pixels > 0 {
-            tally = T::charge(pixels, measure.error(k, r)).join(tally);
-        }
-    }
-    tally
+    if next.1.not_above(best.1) { next } else { best }
 }
 
-// The highest level from `low` to `high` that has the lowest tally, and that tally.
-fn lowest<M: Measure, T: Tally>(
-    measure: &mut M,
-    histogram: &Histogram,
-    a: u16,
-    b: u16,
-    low: u16,
-    high: u16,
-) -> (u16, T)
-    requires { (a ≤ b) × (b < 1024) × (low ≤ high) × (high < 1024) }
-    ensures lowest { LowestAt T.ops (range_tally T.ops (M.error measure.old) (ledger_of histogram.now) a b) low high result.0 }
-    ensures tally { result.1 ≡ range_tally T.ops (M.error measure.old) (ledger_of histogram.now) a b result.0 }
-    ensures same { SameErrors (M.error measure.new) (M.error measure.old) }
-{
-    let mut best = low;
-    let mut least = range_tally::<M, T>(measure, histogram, a, b, low);
-    for r in low + 1..high + 1 {
-        let tally = range_tally::<M, T>(measure, histogram, a, b, r);
-        // Of equal tallies the later, and so the higher, level wins.
-        let wins = tally.not_above(least);
-        if wins {
-            best = r;
-            least = tally;
+impl LevelRange<'_> {
+    // The tally of showing the levels as `r`.
+    fn tally<M: Measure, T: Tally>(&self, measure: &mut M, r: u16) -> T
+        requires { r < 1024 }
+        ensures tally { result ≡ range_tally T.ops (M.error measure.old) (ledger_of self.now.histogram.now) self.now.first self.now.last r }
+        ensures same { SameErrors (M.error measure.new) (M.error measure.old) }
+    {
+        let mut tally = T::neutral();
+        for (place, pixels) in self.pixels().iter().enumerate() {
+            if *pixels > 0 {
+                let level = self.first + place as u16;
+                tally = T::charge(*pixels, measure.error(level, r)).join(tally);
+            }
         }
+        tally
     }
-    (best, least)
+
+    // The highest level from `low` to `high` that has the lowest tally, and that tally.
+    fn lowest<M: Measure, T: Tally>(&self, measure: &mut M, low: u16, high: u16) -> (u16, T)
+        requires { (low ≤ high) × (high < 1024) }
+        ensures lowest { LowestAt T.ops (range_tally T.ops (M.error measure.old) (ledger_of self.now.histogram.now) self.now.first self.now.last) low high result.0 }
+        ensures tally { result.1 ≡ range_tally T.ops (M.error measure.old) (ledger_of self.now.histogram.now) self.now.first self.now.last result.0 }
+        ensures same { SameErrors (M.error measure.new) (M.error measure.old) }
+    {
+        let mut best = (low, self.tally(measure, low));
+        for r in low + 1..=high {
+            let tally = self.tally(measure, r);
+            best = better(best, (r, tally));
+        }
+        best
+    }
 }
 
 // The representative and the price of the levels from `a` to `b`.
@@ -70,10 +60,8 @@ pub(super) fn trial<M: Measure, T: Tally>(
     ensures answer { Priced T.ops (M.error measure.old) (ledger_of histogram.now) a b result }
     ensures same { SameErrors (M.error measure.new) (M.error measure.old) }
 {
-    if b >= histogram.levels() {
-        return None;
-    }
-    let low = lowest_counted(histogram, a, b)?;
-    let high = highest_counted(histogram, a, b)?;
-    Some(lowest(measure, histogram, a, b, low, high))
+    let range = LevelRange::of(histogram, a, b)?;
+    let low = range.lowest_counted()?;
+    let high = range.highest_counted()?;
+    Some(range.lowest(measure, low, high))
 }
