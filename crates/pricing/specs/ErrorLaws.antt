@@ -1,10 +1,13 @@
--- The laws of the squared error.
+-- The laws of the difference and of its square.
 use Rattle.std.specs.Prelude.{◌≡◌, ℕ, ◌*◌, ◌<◌, ◌≤◌, refl}
-use Rattle.std.proofs.Common.{inl, inr, arith}
+use Rattle.std.proofs.Common.{inl, inr, arith, rules}
 use Rattle.std.proofs.lemmas.Nat.{mul-le, mul-lt}
 use Rattle.std.proofs.lemmas.Bool.{cases_lt}
 use Rattle.pricing.specs.Errors.{Fair}
 use Rattle.pricing.specs.Measures.{distance, squared}
+
+pub distance_fair : Fair distance
+distance_fair = search rules
 
 nearer : (a b : ℕ) → a * a < b * b → a < b
 nearer a b h = elim (cases_lt a b) [ inl l ↦ l | inr l ↦ absurd (omega (arith, mul-le b b a a l l)) ]

@@ -5,7 +5,7 @@ ghost use Rattle.pricing.specs.Measures.{allowed};
 use crate::measure::Measure;
 
 // The error of the measure below less the allowance, or none where the allowance is larger.
-#[derive(Drop)]
+#[derive(Drop, Debug)]
 pub struct Allowance<M> {
     pub(super) measure: M,
     pub(super) allowance: u32,

@@ -5,7 +5,7 @@ ghost use Rattle.pricing.specs.Measures.{capped};
 use crate::measure::Measure;
 
 // The smaller of the ceiling and the error of the measure below.
-#[derive(Drop)]
+#[derive(Drop, Debug)]
 pub struct Ceiling<M> {
     pub(super) measure: M,
     pub(super) ceiling: u32,

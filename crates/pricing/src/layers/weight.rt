@@ -6,7 +6,7 @@ use super::weight_list::WeightList;
 use crate::measure::Measure;
 
 // The error of the measure below times the weight of the level k, whose pixels are shown.
-#[derive(Drop)]
+#[derive(Drop, Debug)]
 pub struct Weight<M> {
     pub(super) measure: M,
     pub(super) weights: WeightList,

@@ -2,8 +2,7 @@
 ghost use Rattle.std.specs.Prelude.{◌≡◌, min};
 ghost use Rattle.pricing.specs.Errors.{SameErrors};
 ghost use Rattle.pricing.specs.Measures.{squared, distance};
-ghost use Rattle.pricing.specs.ErrorLaws.{squared_fair};
-ghost use Rattle.std.proofs.Common.{rules};
+ghost use Rattle.pricing.specs.ErrorLaws.{squared_fair, distance_fair};
 
 use super::plain::{Distance, Squared};
 use crate::measure::Measure;
@@ -32,7 +31,7 @@ impl Measure for Squared {
 impl Measure for Distance {
     ghost error = { λ _. distance };
 
-    ghost fair = { Prim.search rules };
+    ghost fair = { λ m. distance_fair };
 
     fn error(&mut self, k: u16, r: u16) -> u32
         ensures value { result ≡ distance (min k 1023) (min r 1023) }

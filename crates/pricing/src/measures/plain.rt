@@ -5,7 +5,7 @@ ghost use Rattle.pricing.specs.Measures.{squared, distance};
 use crate::measure::Measure;
 
 // The square of the difference of two levels.
-#[derive(Clone, Copy)]
+#[derive(Clone, Copy, Default, Debug)]
 pub struct Squared;
 
 impl Squared {
@@ -17,7 +17,7 @@ impl Squared {
 }
 
 // The difference of two levels without its sign.
-#[derive(Clone, Copy)]
+#[derive(Clone, Copy, Default, Debug)]
 pub struct Distance;
 
 impl Distance {

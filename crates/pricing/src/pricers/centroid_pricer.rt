@@ -6,7 +6,7 @@ use crate::measure::Measure;
 use crate::measures::Squared;
 
 // Prices squared errors by their sum, and adds up each range once.
-#[derive(Clone, Copy)]
+#[derive(Clone, Copy, Default, Debug)]
 pub struct CentroidPricer {
     pub(super) measure: Squared,
 }

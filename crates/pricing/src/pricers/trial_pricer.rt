@@ -6,7 +6,7 @@ use crate::tally::Tally;
 use std::marker::PhantomData;
 
 // Prices the errors of the measure that it holds by the tally that it names.
-#[derive(Drop)]
+#[derive(Drop, Debug)]
 pub struct TrialPricer<M, T> {
     pub(super) measure: M,
     tally: PhantomData<T>,
