@@ -40,3 +40,12 @@ pub added_apart : (g : Ledger) (a d p l s : ℕ) → Added g a d p l s → (r : 
 added_apart g a d p l s A r =
     let e : plain g (λ k. squared k r) a d + 2 * (r * l) ≡ s + p * (r * r) = rw (← A.counts, ← A.adds, ← A.adds_squares) at (cost_is g a d r) in
     omega (arith, e)
+
+-- the products of n pixels and the level k
+pub products : (n k : ℕ) → n < 2 ^ 32 → k < 1024 → (n * k ≤ 4393751542785) × (k * k ≤ 1046529) × (n * (k * k) ≤ 4494807828269055)
+products n k few low =
+    let square : k * k ≤ 1046529 = omega (arith, mul-le k k 1023 1023 (omega arith) (omega arith)) in (
+      omega (arith, mul-le n k 4294967295 1023 (omega arith) (omega arith)),
+      square,
+      omega (arith, mul-le n (k * k) 4294967295 1046529 (omega arith) square),
+    )

@@ -1,6 +1,6 @@
 -- The level nearest to the mean, with the sum of its squared errors, is the price of a range under Total.
-use Rattle.std.proofs.Common.{◌≡◌, ℕ, suc, ◌+◌, ◌-◌, ◌*◌, ◌/◌, ◌^◌, ◌<◌, ◌≤◌, sym, ap, ◌∙◌, inl, inr, arith}
-use Rattle.std.proofs.lemmas.Bool.{cases_lt, le-leb}
+use Rattle.std.proofs.Common.{◌≡◌, ℕ, suc, ◌+◌, ◌-◌, ◌*◌, ◌/◌, ◌^◌, ◌<◌, ◌≤◌, sym, ap, ◌∙◌, inr, arith}
+use Rattle.std.proofs.lemmas.Bool.{le-leb}
 use Rattle.counting.specs.Ledger.{Ledger, total_of}
 use Rattle.pricing.specs.Kinds.{total_ops}
 use Rattle.pricing.specs.Measures.{squared}

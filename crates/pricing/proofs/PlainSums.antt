@@ -1,8 +1,8 @@
 -- Plain sums over a range: one level more, their bounds, and that a Total is one.
-use Rattle.std.proofs.Common.{◌≡◌, ℕ, zero, suc, ◌+◌, ◌*◌, ◌^◌, ◌<◌, ◌≤◌, min, ltb, List, length, get_or, take, sum, sym, refl, ap, ◌∙◌, inl, inr, mul-le-mul_left, zero-mul, add-one, arith}
-use Rattle.std.proofs.lemmas.List.{take_all, get_or_past}
-use Rattle.std.proofs.lemmas.List.Sums.{sum_by_more, sum_by-take-le}
-use Rattle.std.proofs.lemmas.Bool.{cases_lt, cond_both, ltb-false}
+use Rattle.std.proofs.Common.{◌≡◌, ℕ, zero, suc, ◌+◌, ◌*◌, ◌^◌, ◌<◌, ◌≤◌, min, ltb, List, get_or, take, sum, sym, refl, ap, ◌∙◌, mul-le-mul_left, zero-mul, add-one, arith}
+use Rattle.std.proofs.lemmas.Grind.{common_steps}
+use Rattle.std.proofs.lemmas.List.Sums.{sum_by-take-le}
+use Rattle.std.proofs.lemmas.Bool.{cond_both, ltb-false}
 use Rattle.counting.specs.Ledger.{Ledger, pixels_at, total_of}
 use Rattle.pricing.specs.Kinds.{held, total_ops}
 use Rattle.pricing.specs.Plain.{plain, pixel_sum}
@@ -16,13 +16,7 @@ plain_next g e a d = rw add-one (omega arith)
 
 -- the pixels of a range are among all pixels
 front_more : (xs : List ℕ) (i : ℕ) → sum (take (i + 1) xs) ≡ sum (take i xs) + get_or xs i 0
-front_more xs i = elim (cases_lt i (length xs)) [
-  | inl h ↦ sum_by_more (λ x. x) xs i 0 h
-  | inr h ↦
-      (let past = get_or_past xs i 0 h in
-      let same : sum (take (i + 1) xs) ≡ sum (take i xs) = ap sum (take_all (i + 1) xs (omega arith) ∙ sym (take_all i xs h)) in
-      omega arith)
-]
+front_more xs i = grind (arith, common_steps)
 
 pixels_front : (g : Ledger) (a d : ℕ) → pixel_sum g a d ≤ sum (take (a + d) g.at)
 unfolding plain

@@ -14,6 +14,7 @@ pub trait Tally: Copy {
     fn join(self, other: Self) -> Self
         ensures { result ≡ ops.join self other };
 
+    // Whether this is at most the other. A kind compares the one number that it holds: a derived order would be no plainer.
     fn not_above(self, other: Self) -> bool
         ensures { result ≡ ops.not_above self other };
 

@@ -7,8 +7,6 @@ use Rattle.pricing.specs.KindLaws.{total_laws}
 use Rattle.pricing.proofs.OnePrice.{one_price}
 use Rattle.pricing.proofs.theorems.both_prices.Goals as goal
 
-pub returns : goal.returns
-returns c = record {
-  equal = one_price total_ops total_laws squared squared (ledger_of c.args.histogram.now) c.args.a c.args.b (λ k r _ _. refl) (omega arith) _ _ c.price.ensures.answer c.price-2.ensures.answer;
-  answer = c.price.ensures.answer;
-}
+pub returns-clause-equal : goal.returns-clause-equal
+returns-clause-equal c =
+    one_price total_ops total_laws squared squared (ledger_of c.args.histogram.now) c.args.a c.args.b (λ k r _ _. refl) (omega arith) _ _ c.price.ensures.answer c.price-2.ensures.answer

@@ -25,19 +25,13 @@ loop-r-preserved g c =
       omega arith,
     )
 
-pub returns : goal.returns
-returns g c =
-    let error = g.M.Measure.error c.args.measure.now in
-    let start = g.M.Measure.error c.tally.new.measure in
+pub returns-clause-tally : goal.returns-clause-tally
+returns-clause-tally g c =
     let all = tried_all g.T.Tally.ops g.met.T.Tally.laws (ledger_of c.args.self.now.histogram.now) c.args.self.now.first c.args.self.now.last (omega arith) (omega arith)
-    error start c.args.low c.args.high c.loop-r.r c.loop-r.best (omega arith) (omega arith) c.tally.ensures.same c.loop-r.invariant.0 in
-    record {
-      lowest = all.0;
-      tally = all.1;
-      same = same_again _ start error c.loop-r.invariant.1 c.tally.ensures.same;
-    }
+    (g.M.Measure.error c.args.measure.now) (g.M.Measure.error c.tally.new.measure) c.args.low c.args.high c.loop-r.r c.loop-r.best (omega arith) (omega arith) c.tally.ensures.same c.loop-r.invariant.0 in
+    all.1
 
--- the same after the turn at the highest level, which is the last
+-- the turn at the highest level is the last
 pub returns-2 : goal.returns-2
 returns-2 g c =
     let error = g.M.Measure.error c.args.measure.now in

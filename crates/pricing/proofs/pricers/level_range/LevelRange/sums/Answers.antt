@@ -1,7 +1,6 @@
 -- One level more is added to each sum, and the sums fit 64 bits.
-use Rattle.std.proofs.Common.{◌≡◌, suc, ◌+◌, ◌-◌, ◌∙◌, arith}
-use Rattle.std.proofs.lemmas.Nat.{mul-le}
-use Rattle.pricing.proofs.AddedUp.{added_none, added_more, added_small, added_apart}
+use Rattle.std.proofs.Common.{◌≡◌, suc, ◌+◌, ◌-◌, ◌*◌, ◌≤◌, ◌∙◌, arith}
+use Rattle.pricing.proofs.AddedUp.{added_none, added_more, added_small, added_apart, products}
 use Rattle.pricing.proofs.pricers.level_range.LevelRange.sums.Goals as goal
 
 pub loop-place-init : goal.loop-place-init
@@ -18,21 +17,23 @@ overflow_add-pixels c =
 
 pub overflow_mul-levels : goal.overflow_mul-levels
 overflow_mul-levels c =
-    omega (arith, mul-le c.from-count.result c.from-in-loop-place.result 4294967295 1023 (omega (arith, c.type_inv.count-items c.loop-place.place)) (omega arith))
+    omega (arith, (products c.from-count.result c.from-in-loop-place.result (omega (arith, c.type_inv.count-items c.loop-place.place)) (omega arith)).0)
 
 pub overflow_add-levels : goal.overflow_add-levels
 overflow_add-levels c =
     let small = added_small c.args.self.now.histogram.now _ _ _ _ _ (omega arith) c.loop-place.invariant in
-    omega (arith, small.few, small.low, mul-le c.from-count.result c.from-in-loop-place.result 4294967295 1023 (omega (arith, c.type_inv.count-items c.loop-place.place)) (omega arith))
+    omega (arith, small.few, small.low, (products c.from-count.result c.from-in-loop-place.result (omega (arith, c.type_inv.count-items c.loop-place.place)) (omega arith)).0)
 
 pub overflow_mul-level : goal.overflow_mul-level
-overflow_mul-level c = omega (arith, mul-le (c.from.result + c.loop-place.place) (c.from.result + c.loop-place.place) 1023 1023 (omega arith) (omega arith))
+overflow_mul-level c = omega (arith, (products 0 (c.from.result + c.loop-place.place) (omega arith) (omega arith)).1)
 
 pub overflow_add-squares : goal.overflow_add-squares
 overflow_add-squares c =
     let small = added_small c.args.self.now.histogram.now _ _ _ _ _ (omega arith) c.loop-place.invariant in
-    let square = mul-le (c.from.result + c.loop-place.place) (c.from.result + c.loop-place.place) 1023 1023 (omega arith) (omega arith) in
-    omega (arith, small.few, small.low_squares, mul-le c.from-count.result c.from-in-loop-place-2.result 4294967295 1046529 (omega (arith, c.type_inv.count-items c.loop-place.place)) (omega arith))
+    let level = c.from.result + c.loop-place.place in
+    let square = (products c.from-count.result level (omega (arith, c.type_inv.count-items c.loop-place.place)) (omega arith)).2 in
+    let squares : c.from-count.result * c.from-in-loop-place-2.result ≤ 4494807828269055 = rw c.from-in-loop-place-2.ensures square in
+    omega (arith, small.few, small.low_squares, squares)
 
 pub invariant_of-result : goal.invariant_of-result
 invariant_of-result c = record {

@@ -32,8 +32,5 @@ loop-place-preserved g c =
       )
     ]
 
-pub returns : goal.returns
-returns g c = record {
-  tally = let all : c.loop-place.place ≡ suc c.args.self.now.last - c.args.self.now.first = omega arith in rw all at c.loop-place.invariant.0;
-  same = c.loop-place.invariant.1;
-}
+pub returns-clause-tally : goal.returns-clause-tally
+returns-clause-tally g c = let all : c.loop-place.place ≡ suc c.args.self.now.last - c.args.self.now.first = omega arith in rw all at c.loop-place.invariant.0
