@@ -5,7 +5,8 @@ ghost use Rattle.pricing.specs.Plain.{Added, Small};
 
 use super::level_range::LevelRange;
 
-// The pixels, the sum of their levels, and the sum of the squares of their levels.
+// The pixels, the sum of their levels, and the sum of the squares of their levels, for levels of a histogram: so they
+// are small, and showing the pixels as any level has a sum of squared errors that is not below zero.
 #[derive(Clone, Copy)]
 pub(super) struct Sums {
     pixels: u64,
