@@ -3,11 +3,11 @@ ghost use Rattle.std.specs.Prelude.{◌≡◌, ◌+◌, ◌*◌, ◌<◌, ◌≤
 ghost use Rattle.tablefile.specs.Numbers.{word_at, long_at};
 ghost use Rattle.tablefile.specs.Fields.{bins_in};
 ghost use Rattle.tablefile.specs.Faults.{first_of, part_fault, head_fault, level_rule, level_fault, levels_fault, bin_rule, bin_fault, bins_fault, first_fault};
-ghost use Rattle.tablefile.specs.Rows.{head_row, levels_row, bins_row, file_row};
+ghost use Rattle.tablefile.specs.Rows.{section_row, head_row, file_row};
 ghost use Rattle.tablefile.specs.Parts.{Judged, GotHead, GotLevel, GotLevels, GotHistogram, GotBin, GotBins, GotTable, GotPair};
 ghost use Rattle.tablefile.specs.Promises.{ReadInto};
 
-use crate::fault::{BinsFault, FileFault, HeadFault, LevelsFault};
+use crate::fault::{BinsFault, FileFault, HeadFault, LevelsFault, SectionFault};
 use crate::numbers::{EDITION, number8, number16, number32};
 use counting::Histogram;
 use refusals::Refusal;
@@ -37,7 +37,7 @@ fn head(file: &[u8]) -> Result<u16, HeadFault>
     }
     let levels = number16(file, 1)?;
     if levels < 2 || levels > 1024 {
-        return Err(HeadFault::Rule { place: 1 });
+        return Err(HeadFault::Section(SectionFault::Rule { place: 1 }));
     }
     Ok(levels)
 }
@@ -51,12 +51,12 @@ fn level_entry(
     before: u32,
 ) -> Result<LevelEntry, LevelsFault>
     requires { place ≤ length file.now }
-    ensures { Judged levels_row (part_fault file.now 1 place 6 (level_rule levels least before (word_at file.now place) (long_at file.now (place + 2)))) (GotLevel file.now levels place before) result }
+    ensures { Judged (section_row 1) (part_fault file.now 1 place 6 (level_rule levels least before (word_at file.now place) (long_at file.now (place + 2)))) (GotLevel file.now levels place before) result }
 {
     let level = number16(file, place)?;
     let pixels = number32(file, place + 2)?;
     if level < least || level >= levels || pixels == 0 || pixels > u32::MAX - before {
-        return Err(LevelsFault::Rule { place });
+        return Err(SectionFault::Rule { place });
     }
     Ok(LevelEntry { level, pixels })
 }
@@ -64,7 +64,7 @@ fn level_entry(
 // The entries of section 1: the pixels that they put at each level.
 fn level_entries(file: &[u8], levels: u16, counted: u16) -> Result<[u32; 1024], LevelsFault>
     requires { (levels ≤ 1024) × (5 ≤ length file.now) }
-    ensures { Judged levels_row (first_of (level_fault file.now levels) counted) (GotLevels file.now counted) result }
+    ensures { Judged (section_row 1) (first_of (level_fault file.now levels) counted) (GotLevels file.now counted) result }
 {
     let mut pixels = [0; 1024];
     let mut least = 0;
@@ -82,11 +82,11 @@ fn level_entries(file: &[u8], levels: u16, counted: u16) -> Result<[u32; 1024], 
 // Section 1: the histogram, and the place after the section.
 fn levels_section(file: &[u8], levels: u16) -> Result<(Histogram, usize), LevelsFault>
     requires { (2 ≤ levels) × (levels ≤ 1024) × (3 ≤ length file.now) }
-    ensures { Judged levels_row (levels_fault file.now levels) (GotHistogram file.now levels) result }
+    ensures { Judged (section_row 1) (levels_fault file.now levels) (GotHistogram file.now levels) result }
 {
     let counted = number16(file, 3)?;
     if counted > levels {
-        return Err(LevelsFault::Rule { place: 3 });
+        return Err(SectionFault::Rule { place: 3 });
     }
     let pixels = level_entries(file, levels, counted)?;
     match Histogram::of(&pixels[0..levels as usize]) {
@@ -104,7 +104,7 @@ fn bin_entry(
     last: bool,
 ) -> Result<BinEntry, BinsFault>
     requires { place ≤ length file.now }
-    ensures { Judged bins_row (part_fault file.now 2 place 4 (bin_rule levels least last (word_at file.now place) (word_at file.now (place + 2)))) (GotBin file.now levels place) result }
+    ensures { Judged (section_row 2) (part_fault file.now 2 place 4 (bin_rule levels least last (word_at file.now place) (word_at file.now (place + 2)))) (GotBin file.now levels place) result }
 {
     let bound = number16(file, place)?;
     let representative = number16(file, place + 2)?;
@@ -113,7 +113,7 @@ fn bin_entry(
         || representative >= levels
         || (last && bound + 1 != levels)
     {
-        return Err(BinsFault::Rule { place });
+        return Err(SectionFault::Rule { place });
     }
     Ok(BinEntry {
         bound,
@@ -129,7 +129,7 @@ fn bin_entries(
     bins: u16,
 ) -> Result<([u16; 256], [u16; 256]), BinsFault>
     requires { (bins ≤ 256) × (bins ≡ bins_in file.now place) × (levels ≤ 1024) × (place + 2 ≤ length file.now) }
-    ensures { Judged bins_row (first_of (bin_fault file.now levels place) (bins_in file.now place)) (GotBins file.now place) result }
+    ensures { Judged (section_row 2) (first_of (bin_fault file.now levels place) (bins_in file.now place)) (GotBins file.now place) result }
 {
     let mut bounds = [0; 256];
     let mut representatives = [0; 256];
@@ -147,11 +147,11 @@ fn bin_entries(
 // Section 2, at a place: the table, and the place after the section.
 fn bins_section(file: &[u8], levels: u16, place: usize) -> Result<(LevelTable, usize), BinsFault>
     requires { (2 ≤ levels) × (levels ≤ 1024) × (place ≤ length file.now) }
-    ensures { Judged bins_row (bins_fault file.now levels place) (GotTable file.now levels place) result }
+    ensures { Judged (section_row 2) (bins_fault file.now levels place) (GotTable file.now levels place) result }
 {
     let bins = number16(file, place)?;
     if bins < 1 || bins > 256 || bins > levels {
-        return Err(BinsFault::Rule { place });
+        return Err(SectionFault::Rule { place });
     }
     let (bounds, representatives) = bin_entries(file, levels, place, bins)?;
     match LevelTable::of(

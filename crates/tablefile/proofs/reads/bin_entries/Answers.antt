@@ -1,5 +1,5 @@
 use Rattle.std.proofs.Common.{◌≡◌, ℕ, sym, refl, ◌∙◌, subst, arith}
-use Rattle.tablefile.specs.Rows.{bins_row}
+use Rattle.tablefile.specs.Rows.{section_row}
 use Rattle.tablefile.specs.Fields.{bins_in}
 use Rattle.tablefile.specs.Faults.{bin_fault}
 use Rattle.tablefile.proofs.Faults.{judged_same, first_of_stops}
@@ -16,7 +16,7 @@ returns-in_err-entry c =
     let place = c.args.place in
     let i = c.loop-i.i in
     let next = bin_next file levels place c.loop-i.bounds c.loop-i.representatives c.loop-i.least i c.loop-i.invariant c.args.bins c.requires.1 in
-    judged_same bins_row _ _ _ _ c.from_residual.ensures.1
+    judged_same (section_row 2) _ _ _ _ c.from_residual.ensures.1
     (first_of_stops (bin_fault file levels place) i (bins_in file place) _ (omega arith) c.loop-i.invariant.fine (sym next ∙ c.in_err-entry.ensures))
 
 pub loop-i-preserved : goal.loop-i-preserved

@@ -1,7 +1,7 @@
 use Rattle.std.proofs.Common.{◌≡◌, ℕ, ◌+◌, ◌-◌, ◌*◌, ◌≤◌, List, take, sym, ap, ◌∙◌, subst, arith}
 use Rattle.std.proofs.lemmas.Bool.Decides.{nat_tests}
 use Rattle.tables.specs.Table.{Lawful, given}
-use Rattle.tablefile.specs.Rows.{bins_row}
+use Rattle.tablefile.specs.Rows.{section_row}
 use Rattle.tablefile.specs.Fields.{bins_in}
 use Rattle.tablefile.specs.Parts.{table_in, BinLists}
 use Rattle.tablefile.proofs.Faults.{judged_err, judged_same, cut_row, bins_cut, bins_many, bins_entries}
@@ -12,7 +12,7 @@ pub returns-in_err-bins : goal.returns-in_err-bins
 returns-in_err-bins c =
     let file = c.args.file.now in
     let cut = c.in_err-bins.ensures in
-    judged_err bins_row _ _ _ _ c.from_residual.ensures.1 (bins_cut file c.args.levels c.args.place cut.0 ∙ cut_row 2 file _ cut.1)
+    judged_err (section_row 2) _ _ _ _ c.from_residual.ensures.1 (bins_cut file c.args.levels c.args.place cut.0 ∙ cut_row 2 file _ cut.1)
 
 pub returns-then-bins-lt1 : goal.returns-then-bins-lt1
 returns-then-bins-lt1 c =
@@ -22,7 +22,7 @@ returns-then-bins-lt1 c =
 pub returns-in_err-bounds : goal.returns-in_err-bounds
 returns-in_err-bounds c =
     let read = c.in_ok-bins.ensures in
-    judged_same bins_row _ _ _ _ c.from_residual-in_err-bounds.ensures.1
+    judged_same (section_row 2) _ _ _ _ c.from_residual-in_err-bounds.ensures.1
     (bins_entries c.args.file.now c.args.levels c.args.place read.1 (grind (arith, nat_tests)) ∙ c.in_err-bounds.ensures)
 
 -- the table that the lists' fronts give

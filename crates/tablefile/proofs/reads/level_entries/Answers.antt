@@ -1,5 +1,5 @@
 use Rattle.std.proofs.Common.{sym, refl, ◌∙◌, arith, length-set}
-use Rattle.tablefile.specs.Rows.{levels_row}
+use Rattle.tablefile.specs.Rows.{section_row}
 use Rattle.tablefile.specs.Faults.{level_fault}
 use Rattle.tablefile.specs.Parts.{pixels_upto}
 use Rattle.tablefile.proofs.Faults.{judged_same, first_of_stops}
@@ -16,7 +16,7 @@ returns-in_err-entry c =
     let levels = c.args.levels in
     let i = c.loop-i.i in
     let next = level_next file levels c.loop-i.pixels c.loop-i.least c.loop-i.total i c.loop-i.invariant in
-    judged_same levels_row _ _ _ _ c.from_residual.ensures.1
+    judged_same (section_row 1) _ _ _ _ c.from_residual.ensures.1
     (first_of_stops (level_fault file levels) i c.args.counted _ (omega arith) c.loop-i.invariant.fine (sym next ∙ c.in_err-entry.ensures))
 
 pub loop-i-preserved : goal.loop-i-preserved

@@ -1,6 +1,6 @@
 use Rattle.std.proofs.Common.{◌≡◌, ℕ, ◌+◌, ◌-◌, ◌*◌, List, take, sym, ap, ◌∙◌, subst, ap₂, arith}
 use Rattle.counting.specs.Sound.{Sound, of_pixels}
-use Rattle.tablefile.specs.Rows.{levels_row}
+use Rattle.tablefile.specs.Rows.{section_row}
 use Rattle.tablefile.specs.Faults.{first_of, level_fault}
 use Rattle.tablefile.specs.Parts.{pixels_upto}
 use Rattle.tablefile.proofs.Faults.{judged_err, judged_same, cut_row, levels_cut, levels_many, levels_entries}
@@ -11,7 +11,7 @@ pub returns-in_err-counted : goal.returns-in_err-counted
 returns-in_err-counted c =
     let file = c.args.file.now in
     let cut = c.in_err-counted.ensures in
-    judged_err levels_row _ _ _ _ c.from_residual.ensures.1 (levels_cut file c.args.levels cut.0 ∙ cut_row 1 file _ cut.1)
+    judged_err (section_row 1) _ _ _ _ c.from_residual.ensures.1 (levels_cut file c.args.levels cut.0 ∙ cut_row 1 file _ cut.1)
 
 pub returns-then-counted-levels : goal.returns-then-counted-levels
 returns-then-counted-levels c =
@@ -23,7 +23,7 @@ returns-in_err-pixels c =
     let file = c.args.file.now in
     let levels = c.args.levels in
     let read = c.in_ok-counted.ensures in
-    judged_same levels_row _ _ _ _ c.from_residual-in_err-pixels.ensures.1
+    judged_same (section_row 1) _ _ _ _ c.from_residual-in_err-pixels.ensures.1
     (levels_entries file levels read.1 (omega arith) ∙ ap (first_of (level_fault file levels)) (sym read.0) ∙ c.in_err-pixels.ensures)
 
 -- the first levels of what the entries laid down
