@@ -1,64 +1,65 @@
 -- How far the entries of section 2 are read, and that entries without a fault list a lawful table.
-use Rattle.std.proofs.Common.{◌≡◌, ℕ, suc, ◌+◌, ◌-◌, ◌<◌, ◌≤◌, Bool, true, eqb, ltb, leb, List, map, length, get_or, take, set, None, sym, refl, ap, ◌∙◌, ap₂, add-one, arith, length-set}
+use Rattle.std.proofs.Common.{◌≡◌, ℕ, suc, ◌+◌, ◌-◌, ◌<◌, ◌≤◌, Bool, true, eqb, ltb, leb, List, map, length, [], ◌∷◌, ◌++◌, get_or, None, sym, refl, ap, ◌∙◌, ap₂, add-one, arith}
 use Rattle.std.specs.List.{range_with_len}
-use Rattle.std.proofs.lemmas.List.Edits.{fill_by_more}
-use Rattle.std.proofs.lemmas.List.{length-take-le, get_or-take}
 use Rattle.std.proofs.lemmas.Bool.{and_parts, leb-true, ltb-true, eqb-true, eq-eqb}
-use Rattle.std.proofs.lemmas.List.FromFn.{fill_by_all, length-map-range_with_len, get_or-map-range_with_len}
+use Rattle.std.proofs.lemmas.List.FromFn.{map-range_with_len_more, length-map-range_with_len, get_or-map-range_with_len}
 use Rattle.tables.specs.Table.{Lawful, given}
 use Rattle.tablefile.specs.Fields.{bins_in, bin_place, bound_in, representative_in}
 use Rattle.tablefile.specs.Faults.{first_of, part_fault, bin_rule, bin_fault, least_next}
-use Rattle.tablefile.specs.Parts.{BinLists, table_in}
+use Rattle.tablefile.specs.Numbers.{word_at}
+use Rattle.tablefile.specs.Parts.{ReadOn, table_in}
+use Rattle.tablefile.specs.declared.body.Body.{Body}
 use Rattle.tablefile.proofs.Faults.{first_of_more, first_of_none, part_none}
 
+-- the numbers of the first bins of a file
+abbrev pub first_bins : (ℕ → ℕ) → ℕ → List ℕ
+first_bins number i = map number (range_with_len 0 i)
+
+first_bins_more : (number : ℕ → ℕ) (i : ℕ) → first_bins number (i + 1) ≡ first_bins number i ++ number i ∷ []
+first_bins_more number i = map-range_with_len_more number 0 i i (omega arith)
+
+pub first_bins_long : (number : ℕ → ℕ) (i : ℕ) → length (first_bins number i) ≡ i
+first_bins_long number i = length-map-range_with_len number 0 i
+
 -- entries 0 to i - 1 of section 2 are read, and none has a fault
-pub record BinsUpto (file : List ℕ) (levels place : ℕ) (bounds greys : List ℕ) (least i : ℕ) : Type 0 where
+pub record BinsUpto (file : List ℕ) (levels place : ℕ) (bounds greys : List ℕ) (least i : ℕ) (body : Body) : Type 0 where
   pub fine : first_of (bin_fault file levels place) i ≡ None
-  pub lists : BinLists file place bounds greys i
+  pub bounds_are : bounds ≡ first_bins (bound_in file place) i
+  pub greys_are : greys ≡ first_bins (representative_in file place) i
   pub rises : least ≡ least_next (bound_in file place) i
-  pub reach : bin_place place i ≤ length file
+  pub file_is : body.file.now ≡ file
+  pub levels_are : body.levels ≡ levels
+  pub reach : body.place ≡ bin_place place i
 
-pub no_bins : (file : List ℕ) (levels place : ℕ) (bounds greys : List ℕ) → place + 2 ≤ length file → length bounds ≡ 256 → length greys ≡ 256 → BinsUpto file levels place bounds greys 0 0
+pub no_bins : (file : List ℕ) (levels place : ℕ) (bounds greys : List ℕ) (body : Body) → bounds ≡ [] → greys ≡ [] →
+    body.file.now ≡ file → body.levels ≡ levels → body.place ≡ place + 2 → BinsUpto file levels place bounds greys 0 0 body
 unfolding first_of
-no_bins file levels place bounds greys h wide also = record {
-  fine = refl;
-  lists = record { widths = (wide, also); bounds_are = λ k lt. absurd (omega arith); representatives_are = λ k lt. absurd (omega arith) };
-  rises = refl;
-  reach = omega arith;
-}
+no_bins file levels place bounds greys body none also same levels_are at =
+    record { fine = refl; bounds_are = none; greys_are = also; rises = refl; file_is = same; levels_are = levels_are; reach = omega arith }
 
-module _ (file : List ℕ) (levels place : ℕ) (bounds greys : List ℕ) (least i : ℕ) (u : BinsUpto file levels place bounds greys least i) where
+module _ (file : List ℕ) (levels place : ℕ) (bounds greys : List ℕ) (least i : ℕ) (body : Body) (u : BinsUpto file levels place bounds greys least i body) where
   -- the fault of the next entry
   pub bin_next : (bins : ℕ) → bins ≡ bins_in file place →
-      part_fault file 2 (bin_place place i) 4 (bin_rule levels least (eqb (i + 1) bins) (bound_in file place i) (representative_in file place i)) ≡ bin_fault file levels place i
-  bin_next bins e =
-      ap₂ (λ (l b : ℕ). part_fault file 2 (bin_place place i) 4 (bin_rule levels l (eqb (i + 1) b) (bound_in file place i) (representative_in file place i))) u.rises e
+      part_fault body.file.now 2 body.place 4 (bin_rule body.levels least (eqb (i + 1) bins) (word_at body.file.now body.place) (word_at body.file.now (body.place + 2))) ≡ bin_fault file levels place i
+  bin_next bins e = let a = u.rises in let b = u.file_is in let c = u.levels_are in let d = u.reach in cc
 
-  pub bins_more : (bound grey : ℕ) → bin_fault file levels place i ≡ None → bound ≡ bound_in file place i → grey ≡ representative_in file place i →
-      bin_place place i + 4 ≤ length file → i < 256 → BinsUpto file levels place (set bounds i bound) (set greys i grey) (bound + 1) (i + 1)
-  bins_more bound grey none bound_is grey_is fits few =
-      let wide = u.lists.widths in
+  pub bins_more : (then : Body) (bound grey : ℕ) → bin_fault file levels place i ≡ None →
+      bound ≡ word_at body.file.now body.place → grey ≡ word_at body.file.now (body.place + 2) → ReadOn body (body.place + 4) then →
+      BinsUpto file levels place (bounds ++ bound ∷ []) (greys ++ grey ∷ []) (bound + 1) (i + 1) then
+  bins_more then bound grey none bound_is grey_is on =
+      let a = u.file_is in
+      let b = u.reach in
+      let bound_at : bound ≡ bound_in file place i = cc in
+      let grey_at : grey ≡ representative_in file place i = cc in
       record {
         fine = first_of_more (bin_fault file levels place) i u.fine none;
-        lists = record {
-          widths = (length-set bounds i bound ∙ wide.0, length-set greys i grey ∙ wide.1);
-          bounds_are = rw bound_is (fill_by_more (bound_in file place) bounds i 0 (omega arith) u.lists.bounds_are);
-          representatives_are = rw grey_is (fill_by_more (representative_in file place) greys i 0 (omega arith) u.lists.representatives_are);
-        };
-        rises = rw (add-one i) (ap (λ (n : ℕ). n + 1) bound_is);
-        reach = omega arith;
+        bounds_are = ap₂ (λ (xs : List ℕ) (x : ℕ). xs ++ x ∷ []) u.bounds_are bound_at ∙ sym (first_bins_more (bound_in file place) i);
+        greys_are = ap₂ (λ (xs : List ℕ) (x : ℕ). xs ++ x ∷ []) u.greys_are grey_at ∙ sym (first_bins_more (representative_in file place) i);
+        rises = rw (add-one i) (ap (λ (n : ℕ). n + 1) bound_at);
+        file_is = on.0 ∙ a;
+        levels_are = on.1 ∙ u.levels_are;
+        reach = omega (arith, on.2);
       }
-
--- the lists' fronts are the table's
-pub lists_table : (file : List ℕ) (levels place : ℕ) (bounds greys : List ℕ) (bins : ℕ) → bins ≡ bins_in file place → bins ≤ 256 →
-    BinLists file place bounds greys (bins_in file place) → given levels (take bins bounds) (take bins greys) ≡ table_in file levels place
-lists_table file levels place bounds greys bins e few lists =
-    let b = bins_in file place in
-    let wide = lists.widths in
-    let front : (xs : List ℕ) (f : ℕ → ℕ) → length xs ≡ 256 → ((k : ℕ) → k < b → get_or xs k 0 ≡ f k) → take b xs ≡ map f (range_with_len 0 b) =
-    λ xs f long is. fill_by_all f (take b xs) b 0 (length-take-le b xs (omega arith)) (λ k h. get_or-take b xs k 0 h ∙ is k h) in
-    ap (λ (n : ℕ). given levels (take n bounds) (take n greys)) e
-    ∙ ap₂ (λ (xs ys : List ℕ). given levels xs ys) (front bounds (bound_in file place) wide.0 lists.bounds_are) (front greys (representative_in file place) wide.1 lists.representatives_are)
 
 -- a bin's rule, part by part
 pub bin_rules : (levels least : ℕ) (last : Bool) (bound grey : ℕ) → bin_rule levels least last bound grey ≡ true →

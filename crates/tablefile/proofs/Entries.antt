@@ -1,45 +1,60 @@
 -- How far the entries of a section are read.
-use Rattle.std.proofs.Common.{◌≡◌, ℕ, zero, suc, ◌+◌, ◌<◌, ◌≤◌, true, ltb, leb, List, length, take, set, None, refl, ap, ap₂, add-one, arith}
+use Rattle.std.proofs.Common.{◌≡◌, ℕ, zero, suc, ◌+◌, ◌<◌, ◌≤◌, true, ltb, leb, List, length, take, set, None, refl, ap, ◌∙◌, add-one, arith, length-set}
 use Rattle.std.proofs.lemmas.Bool.{and_parts, leb-true, ltb-true}
 use Rattle.std.proofs.lemmas.List.{length-take-le}
 use Rattle.counting.specs.Sound.{Sound, of_pixels}
 use Rattle.tablefile.specs.Fields.{level_place, level_in, pixels_in}
 use Rattle.tablefile.specs.Faults.{first_of, part_fault, level_rule, level_fault, least_next, pixels_before}
-use Rattle.tablefile.specs.Parts.{pixels_upto}
+use Rattle.tablefile.specs.Numbers.{word_at, long_at}
+use Rattle.tablefile.specs.Parts.{ReadOn, pixels_upto}
+use Rattle.tablefile.specs.declared.body.Body.{Body}
 use Rattle.tablefile.proofs.Faults.{first_of_more, first_of_none, part_none}
 use Rattle.tablefile.proofs.Levels.{Entry, upto_wide, laid_sum}
 
 -- entries 0 to i - 1 of section 1 are read, and none has a fault
-pub record LevelsUpto (file : List ℕ) (levels : ℕ) (pixels : List ℕ) (least total i : ℕ) : Type 0 where
+pub record LevelsUpto (file : List ℕ) (levels : ℕ) (pixels : List ℕ) (least total i : ℕ) (body : Body) : Type 0 where
   pub fine : first_of (level_fault file levels) i ≡ None
   pub so_far : pixels ≡ pixels_upto file i
   pub rises : least ≡ least_next (level_in file) i
   pub counts : total ≡ pixels_before file i
-  pub reach : level_place i ≤ length file
   pub wide : length pixels ≡ 1024
+  pub file_is : body.file.now ≡ file
+  pub levels_are : body.levels ≡ levels
+  pub reach : body.place ≡ level_place i
 
-pub no_levels : (file : List ℕ) (levels : ℕ) (pixels : List ℕ) → 5 ≤ length file → pixels ≡ pixels_upto file 0 → length pixels ≡ 1024 → LevelsUpto file levels pixels 0 0 0
+pub no_levels : (file : List ℕ) (levels : ℕ) (pixels : List ℕ) (body : Body) → pixels ≡ pixels_upto file 0 → length pixels ≡ 1024 →
+    body.file.now ≡ file → body.levels ≡ levels → body.place ≡ 5 → LevelsUpto file levels pixels 0 0 0 body
 unfolding first_of
-no_levels file levels pixels h e long = record { fine = refl; so_far = e; rises = refl; counts = refl; reach = omega arith; wide = long }
+no_levels file levels pixels body e long same levels_are at =
+    record { fine = refl; so_far = e; rises = refl; counts = refl; wide = long; file_is = same; levels_are = levels_are; reach = omega arith }
 
--- the fault of the next entry
-pub level_next : (file : List ℕ) (levels : ℕ) (pixels : List ℕ) (least total i : ℕ) → LevelsUpto file levels pixels least total i →
-    part_fault file 1 (level_place i) 6 (level_rule levels least total (level_in file i) (pixels_in file i)) ≡ level_fault file levels i
-level_next file levels pixels least total i u =
-    ap₂ (λ (l t : ℕ). part_fault file 1 (level_place i) 6 (level_rule levels l t (level_in file i) (pixels_in file i))) u.rises u.counts
+module _ (file : List ℕ) (levels : ℕ) (pixels : List ℕ) (least total i : ℕ) (body : Body) (u : LevelsUpto file levels pixels least total i body) where
+  -- the fault of the next entry
+  pub level_next :
+      part_fault body.file.now 1 body.place 6 (level_rule body.levels least total (word_at body.file.now body.place) (long_at body.file.now (body.place + 2))) ≡ level_fault file levels i
+  level_next = let a = u.rises in let b = u.counts in let c = u.file_is in let d = u.levels_are in let e = u.reach in cc
 
-pub levels_more : (file : List ℕ) (levels : ℕ) (pixels : List ℕ) (least total i level count : ℕ) → LevelsUpto file levels pixels least total i →
-    level_fault file levels i ≡ None → level ≡ level_in file i → count ≡ pixels_in file i → level_place i + 6 ≤ length file →
-    length (set pixels level count) ≡ 1024 → LevelsUpto file levels (set pixels level count) (level + 1) (total + count) (i + 1)
-unfolding pixels_upto
-levels_more file levels pixels least total i level count u none level_is count_is fits long = record {
-  fine = first_of_more (level_fault file levels) i u.fine none;
-  so_far = (let a = u.so_far in rw (add-one i) (cc));
-  rises = rw (add-one i) (ap (λ (n : ℕ). n + 1) level_is);
-  counts = (let a = u.counts in rw (add-one i) (cc));
-  reach = omega arith;
-  wide = long;
-}
+  pub levels_more : (then : Body) (level count : ℕ) → level_fault file levels i ≡ None →
+      level ≡ word_at body.file.now body.place → count ≡ long_at body.file.now (body.place + 2) → ReadOn body (body.place + 6) then →
+      LevelsUpto file levels (set pixels level count) (level + 1) (total + count) (i + 1) then
+  unfolding pixels_upto
+  levels_more then level count none level_is count_is on =
+      let a = u.so_far in
+      let b = u.counts in
+      let c = u.file_is in
+      let d = u.reach in
+      let level_at : level ≡ level_in file i = cc in
+      let count_at : count ≡ pixels_in file i = cc in
+      record {
+        fine = first_of_more (level_fault file levels) i u.fine none;
+        so_far = rw (add-one i) (cc);
+        rises = rw (add-one i) (ap (λ (n : ℕ). n + 1) level_at);
+        counts = rw (add-one i) (cc);
+        wide = length-set pixels level count ∙ u.wide;
+        file_is = on.0 ∙ c;
+        levels_are = on.1 ∙ u.levels_are;
+        reach = omega (arith, on.2);
+      }
 
 -- a level's rule, part by part
 pub level_rules : (levels least before level pixels : ℕ) → level_rule levels least before level pixels ≡ true →

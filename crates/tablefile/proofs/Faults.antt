@@ -159,36 +159,22 @@ module _ (file : List ℕ) (levels place : ℕ) where
       let b = and_parts (leb (bins_in file place) 256) _ a.1 in
       (number.0, leb-true _ _ a.0, leb-true _ _ b.0, leb-true _ _ b.1, parts.1)
 
--- A file's first fault is that of the first section that has one; `levels` and `place` are what the sections before it gave.
+-- A file's first fault is that of the first section that has one.
 module _ (file : List ℕ) where
   pub head_stops : (x : Row) → head_fault file ≡ Some x → first_fault file ≡ Some x
   unfolding first_fault
   head_stops x e = first_is _ _ x e
 
-  module _ (levels : ℕ) (is : levels ≡ levels_in file) (head : head_fault file ≡ None) where
-    pub levels_stop : (x : Row) → levels_fault file levels ≡ Some x → first_fault file ≡ Some x
+  module _ (head : head_fault file ≡ None) where
+    pub levels_stop : (x : Row) → levels_fault file (levels_in file) ≡ Some x → first_fault file ≡ Some x
     unfolding first_fault
-    levels_stop x e = first_then _ _ head ∙ first_is _ _ x (ap (levels_fault file) (sym is) ∙ e)
+    levels_stop x e = first_then _ _ head ∙ first_is _ _ x e
 
-    module _ (place : ℕ) (at : place ≡ bins_place file) (fine : levels_fault file levels ≡ None) where
-      past_levels : first_fault file ≡ first (bins_fault file (levels_in file) (bins_place file)) (rest_fault file (bin_place (bins_place file) (bins_in file (bins_place file))))
+    module _ (levels : levels_fault file (levels_in file) ≡ None) where
+      pub bins_stop : (x : Row) → bins_fault file (levels_in file) (bins_place file) ≡ Some x → first_fault file ≡ Some x
       unfolding first_fault
-      past_levels = first_then _ _ head ∙ first_then _ _ (ap (levels_fault file) (sym is) ∙ fine)
+      bins_stop x e = first_then _ _ head ∙ first_then _ _ levels ∙ first_is _ _ x e
 
-      bins_are : bins_fault file levels place ≡ bins_fault file (levels_in file) (bins_place file)
-      bins_are = ap₂ (bins_fault file) is at
-
-      pub bins_stop : (x : Row) → bins_fault file levels place ≡ Some x → first_fault file ≡ Some x
-      bins_stop x e = past_levels ∙ first_is _ _ x (sym bins_are ∙ e)
-
-      module _ (end : ℕ) (after : end ≡ bin_place place (bins_in file place)) (also : bins_fault file levels place ≡ None) where
-        past_bins : first_fault file ≡ rest_fault file end
-        past_bins =
-            past_levels ∙ first_then _ _ (sym bins_are ∙ also)
-            ∙ sym (ap (rest_fault file) (after ∙ ap (λ (p : ℕ). bin_place p (bins_in file p)) at))
-
-        pub rest_stops : end < length file → first_fault file ≡ Some (15, end ∷ [])
-        rest_stops h = past_bins ∙ rest_some file end h
-
-        pub nothing_stops : length file ≤ end → first_fault file ≡ None
-        nothing_stops h = past_bins ∙ rest_none file end h
+      pub rest_left : bins_fault file (levels_in file) (bins_place file) ≡ None → first_fault file ≡ rest_fault file (bin_place (bins_place file) (bins_in file (bins_place file)))
+      unfolding first_fault
+      rest_left bins = first_then _ _ head ∙ first_then _ _ levels ∙ first_then _ _ bins

@@ -14,7 +14,7 @@ use Rattle.tablefile.specs.Fields.{levels_in, counted_in, level_place, level_in,
 use Rattle.tablefile.specs.Faults.{first_of, head_fault, least_next, pixels_before, level_fault, levels_fault, bin_fault, bins_fault, first_fault}
 use Rattle.tablefile.specs.Parts.{pixels_upto, ledger_in, table_in}
 use Rattle.tablefile.specs.Theorems.{Pair}
-use Rattle.tablefile.proofs.Faults.{first_then, edition_fine, part_fine, first_of_fine, levels_entries, bins_entries, nothing_stops}
+use Rattle.tablefile.proofs.Faults.{first_then, edition_fine, part_fine, first_of_fine, levels_entries, bins_entries, rest_left, rest_none}
 use Rattle.tablefile.proofs.Kept.{Keeps, kept_below, kept_keeps, kept_place}
 use Rattle.tablefile.proofs.Levels.{Entry, upto_wide, at_entry, elsewhere, upto_sum, before_grows}
 use Rattle.tablefile.proofs.Places.{read_word, read_long, read_entries, read_entry}
@@ -268,4 +268,7 @@ module _ (g : Ledger) (t : Table) (pair : Pair g t) where
       and_from _ _ (le-leb _ _ b_some) (and_from _ _ (le-leb _ _ b_most) (le-leb _ _ b_inside)) in
       let bins : bins_fault file k place ≡ None =
       bins_entries file k place bins_part.2 bins_rule ∙ ap (first_of (bin_fault file k place)) number ∙ first_of_fine (bin_fault file k place) b bin_fine in
-      nothing_stops file k (sym levels_are) head place refl levels (bin_place place b) (ap (bin_place place) (sym number)) bins file_ends
+      let of_all : levels_fault file (levels_in file) ≡ None = ap (levels_fault file) levels_are ∙ levels in
+      let of_bins : bins_fault file (levels_in file) place ≡ None = ap (λ (n : ℕ). bins_fault file n place) levels_are ∙ bins in
+      let ends : length file ≤ bin_place place (bins_in file place) = omega (arith, file_ends) in
+      rest_left file head of_all of_bins ∙ rest_none file (bin_place place (bins_in file place)) ends

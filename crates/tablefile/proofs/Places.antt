@@ -1,7 +1,7 @@
--- Reading numbers and entries off what is left of a file at a place.
-use Rattle.std.proofs.Common.{◌≡◌, ℕ, zero, suc, ◌+◌, ◌/◌, ◌%◌, ◌<◌, ◌≤◌, List, ◌∷◌, ◌++◌, length, get_or, drop, sym, ap, ◌∙◌, append_assoc, add-one, arith}
+-- Reading numbers and entries off what is left of a file at a place, and numbers from the bytes that are taken there.
+use Rattle.std.proofs.Common.{◌≡◌, ℕ, zero, suc, ◌+◌, ◌*◌, ◌/◌, ◌%◌, ◌<◌, ◌≤◌, List, ◌∷◌, ◌++◌, length, get_or, take, drop, sym, ap, ◌∙◌, ap₂, append_assoc, add-one, arith}
 use Rattle.std.specs.List.{flat_map}
-use Rattle.std.proofs.lemmas.List.{get_or-drop, drop-drop, drop_more, drop_at, length-drop}
+use Rattle.std.proofs.lemmas.List.{get_or-take, get_or-drop, drop-drop, drop_more, drop_at, length-drop}
 use Rattle.tablefile.specs.Numbers.{word, long, word_at, long_at}
 
 module _ (file : List ℕ) where
@@ -53,3 +53,23 @@ module _ (file : List ℕ) where
 
     pub read_entry : (i : ℕ) → i < length xs → drop (at i) file ≡ entry (get_or xs i 0) ++ (flat_map entry (drop (suc i) xs) ++ rest)
     read_entry i h = first_entry i h (read_entries i (omega arith))
+
+-- the numbers of which the bytes are taken, at a place of the file as it is then
+module _ (file : List ℕ) (place : ℕ) (then : List ℕ) (at : ℕ) (bytes : List ℕ) (same : then ≡ file) (here : at ≡ place) where
+  pub byte_taken : (size k : ℕ) → bytes ≡ take size (drop at then) → k < size → get_or bytes k 0 ≡ get_or file (place + k) 0
+  byte_taken size k taken h =
+      ap (λ (xs : List ℕ). get_or xs k 0) taken ∙ get_or-take size (drop at then) k 0 h ∙ get_or-drop at then k 0 ∙ ap₂ (λ (xs : List ℕ) (p : ℕ). get_or xs (p + k) 0) same here
+
+  pub word_taken : bytes ≡ take 2 (drop at then) → get_or bytes 0 0 * 256 + get_or bytes 1 0 ≡ word_at file place
+  word_taken taken =
+      let high = byte_taken 2 0 taken (omega arith) in
+      let low = byte_taken 2 1 taken (omega arith) in
+      let first : get_or file (place + 0) 0 ≡ get_or file place 0 = ap (λ (p : ℕ). get_or file p 0) (omega arith) in omega arith
+
+  pub long_taken : bytes ≡ take 4 (drop at then) → get_or bytes 0 0 * 16777216 + get_or bytes 1 0 * 65536 + get_or bytes 2 0 * 256 + get_or bytes 3 0 ≡ long_at file place
+  long_taken taken =
+      let a = byte_taken 4 0 taken (omega arith) in
+      let b = byte_taken 4 1 taken (omega arith) in
+      let c = byte_taken 4 2 taken (omega arith) in
+      let d = byte_taken 4 3 taken (omega arith) in
+      let first : get_or file (place + 0) 0 ≡ get_or file place 0 = ap (λ (p : ℕ). get_or file p 0) (omega arith) in omega arith

@@ -1,6 +1,7 @@
 // Table files: a histogram and a level table as bytes, and back.
 #![tactic(auto)]
 
+mod body;
 mod fault;
 mod numbers;
 mod reads;

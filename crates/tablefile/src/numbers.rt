@@ -1,6 +1,6 @@
 // The numbers of a file, most significant byte first: reading one at a place, and writing one.
-ghost use Rattle.std.specs.Prelude.{◌+◌, ◌≤◌, length, slice_index};
-ghost use Rattle.tablefile.specs.Numbers.{word, long, word_at, long_at};
+ghost use Rattle.std.specs.Prelude.{◌+◌, ◌≤◌, length};
+ghost use Rattle.tablefile.specs.Numbers.{word, long};
 ghost use Rattle.tablefile.specs.Parts.{GotNumber, PutAt};
 
 use crate::fault::NumberFault;
@@ -8,40 +8,15 @@ use crate::fault::NumberFault;
 // The first byte of every file.
 pub const EDITION: u8 = 5;
 
-// The number at a place that the file reaches to.
-pub(crate) fn number8(file: &[u8], place: usize) -> Result<u8, NumberFault>
+// The bytes of the number at a place that the file reaches to.
+pub(crate) fn number<const N: usize>(file: &[u8], place: usize) -> Result<[u8; N], NumberFault>
     requires { place ≤ length file.now }
-    ensures { GotNumber file.now place 1 (slice_index file.now place) result }
+    ensures { GotNumber file.now place N result }
 {
-    if file.len() - place < 1 {
-        return Err(NumberFault::CutShort { length: file.len() });
+    match file[place..].first_chunk() {
+        Some(bytes) => Ok(*bytes),
+        None => Err(NumberFault::CutShort { length: file.len() }),
     }
-    Ok(file[place])
-}
-
-pub(crate) fn number16(file: &[u8], place: usize) -> Result<u16, NumberFault>
-    requires { place ≤ length file.now }
-    ensures { GotNumber file.now place 2 (word_at file.now place) result }
-{
-    if file.len() - place < 2 {
-        return Err(NumberFault::CutShort { length: file.len() });
-    }
-    Ok(u16::from_be_bytes([file[place], file[place + 1]]))
-}
-
-pub(crate) fn number32(file: &[u8], place: usize) -> Result<u32, NumberFault>
-    requires { place ≤ length file.now }
-    ensures { GotNumber file.now place 4 (long_at file.now place) result }
-{
-    if file.len() - place < 4 {
-        return Err(NumberFault::CutShort { length: file.len() });
-    }
-    Ok(u32::from_be_bytes([
-        file[place],
-        file[place + 1],
-        file[place + 2],
-        file[place + 3],
-    ]))
 }
 
 // Writes the number at a place; gives the place after it.
