@@ -33,16 +33,14 @@ module _ (h : Histogram) (t : LevelTable) (out then : List ℕ) (room written : 
   pair : Pair (ledger_of h) (table_of t)
   pair = record { histogram = sound_histogram h; table = lawful_table t; same = same_levels (ledger_of h) (table_of t) room none }
 
-  part_is : take (written - 0) then ≡ bytes_of (ledger_of h) (table_of t)
+  part_is : take written then ≡ bytes_of (ledger_of h) (table_of t)
   part_is =
-      let bytes = bytes_of (ledger_of h) (table_of t) in
-      let size : written - 0 ≡ written = omega arith in
-      ap₂ (λ (n : ℕ) (xs : List ℕ). take n xs) size front ∙ take_at bytes _ written (sym number)
+      ap (take written) front ∙ take_at (bytes_of (ledger_of h) (table_of t)) _ written (sym number)
 
-  pub never_refused : (x : Row) → first_fault (take (written - 0) then) ≡ Some x → ⊥
+  pub never_refused : (x : Row) → first_fault (take written then) ≡ Some x → ⊥
   never_refused x e = none_some x (sym (pair_faultless (ledger_of h) (table_of t) pair) ∙ sym (ap first_fault part_is) ∙ e)
 
-  pub same_pair : (back : Histogram) (table_back : LevelTable) → Reads (take (written - 0) then) (ledger_of back) (table_of table_back) →
+  pub same_pair : (back : Histogram) (table_back : LevelTable) → Reads (take written then) (ledger_of back) (table_of table_back) →
       (ledger_of back ≡ ledger_of h) × (table_of table_back ≡ table_of t)
   same_pair back table_back reads =
       let other : Pair (ledger_of back) (table_of table_back) = record { histogram = sound_histogram back; table = lawful_table table_back; same = reads.2 } in

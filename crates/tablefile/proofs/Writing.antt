@@ -1,5 +1,5 @@
 -- Bytes written one part after the other, and how many bytes a pair has.
-use Rattle.std.proofs.Common.{◌≡◌, ℕ, zero, suc, ◌+◌, ◌*◌, ◌<◌, ◌≤◌, Bool, ltb, List, [], ◌∷◌, ◌++◌, length, take, drop, Some, None, count_by, sym, refl, ap, ◌∙◌, subst, ap₂, inl, inr, mul-zero, mul-suc, add-one, arith, length-append, take_all}
+use Rattle.std.proofs.Common.{◌≡◌, ℕ, zero, suc, ◌+◌, ◌*◌, ◌/◌, ◌%◌, ◌^◌, ◌<◌, ◌≤◌, Bool, ltb, List, [], ◌∷◌, ◌++◌, length, take, drop, Some, None, count_by, sym, refl, ap, ◌∙◌, subst, ap₂, inl, inr, mul-zero, mul-suc, add-one, arith, length-append, take_all}
 use lib.Seq.{paste}
 use Rattle.std.specs.List.{range_with_len, flat_map}
 use Rattle.std.proofs.lemmas.List.Edits.{paste_none, paste-paste, paste_all}
@@ -11,34 +11,46 @@ use Rattle.counting.specs.Ledger.{Ledger, pixels_at, counted_levels}
 use Rattle.counting.specs.Outputs.{over}
 use Rattle.tables.specs.Table.{Table}
 use Rattle.tablefile.specs.Bytes.{head_bytes, counted_below, counted_of, level_bytes, levels_bytes, bin_bytes, bins_bytes, bytes_of}
-use Rattle.tablefile.specs.Numbers.{word}
-use Rattle.tablefile.specs.Parts.{PutAt}
+use Rattle.tablefile.specs.Numbers.{word, long}
+use Rattle.tablefile.specs.Parts.{Puts}
+use Rattle.tablefile.specs.declared.writer.Writer.{Writer}
 use Rattle.tablefile.specs.Promises.{write_row}
 use Rattle.tablefile.proofs.Kept.{counting_more, kept_yes, kept_no, kept_grows}
 
 -- one part after another
-pub put_put : (out mid then : List ℕ) (place next end : ℕ) (a b : List ℕ) → place + length a ≤ length out →
-    PutAt out place a next mid → PutAt mid next b end then → PutAt out place (a ++ b) end then
-put_put out mid then place next end a b room first second =
+pub put_put : (writer mid then : Writer) (a b : List ℕ) → writer.place + length a ≤ length writer.out.now → Puts writer a mid → Puts mid b then → Puts writer (a ++ b) then
+put_put writer mid then a b room first second =
     let joint : length (a ++ b) ≡ length a + length b = length-append a b in
-    let here : mid ≡ paste out place a (length a) = first.1 in
-    let e = first.0 in
-    let f = second.0 in (
+    let e = first.2 in
+    let f = second.2 in (
+      second.0 ∙ first.0,
+      second.1 ∙ first.1,
       omega arith,
-      second.1 ∙ ap₂ (λ (xs : List ℕ) (p : ℕ). paste xs p b (length b)) here e
-          ∙ paste-paste out place a b (length a) (length b) refl refl (omega arith)
-          ∙ ap (λ (n : ℕ). paste out place (a ++ b) n) (sym joint),
+      second.3 ∙ ap₂ (λ (xs : List ℕ) (p : ℕ). paste xs p b (length b)) first.3 e
+          ∙ paste-paste writer.out.now writer.place a b (length a) (length b) refl refl (omega arith)
+          ∙ ap (λ (n : ℕ). paste writer.out.now writer.place (a ++ b) n) (sym joint),
     )
 
--- what is written from the start on
-pub put_over : (out then bytes : List ℕ) (end : ℕ) → PutAt out 0 bytes end then → (end ≡ length bytes) × (then ≡ over bytes out)
-put_over out then bytes end put =
-    let e = put.0 in
-    let same : 0 + length bytes ≡ length bytes = omega arith in
-    (omega arith, put.1 ∙ paste_all out 0 bytes (length bytes) refl ∙ ap (λ (n : ℕ). bytes ++ drop n out) same)
+pub put_none : (writer : Writer) → Puts writer [] writer
+put_none writer = (refl, refl, omega arith, paste_none writer.out.now writer.place [])
 
-pub put_none : (out : List ℕ) (place : ℕ) → PutAt out place [] place out
-put_none out place = (omega arith, paste_none out place [])
+-- the same bytes, put another way
+pub put_same : (writer then : Writer) (a b : List ℕ) → a ≡ b → Puts writer a then → Puts writer b then
+put_same writer then a b e put = subst (λ (bytes : List ℕ). Puts writer bytes then) e put
+
+-- the bytes of a number
+pub word_bytes : (n : ℕ) → n < 2 ^ 16 → n / 256 % 256 ∷ n % 256 ∷ [] ≡ word n
+word_bytes n h = ap (λ (b : ℕ). b ∷ n % 256 ∷ []) (omega arith)
+
+pub long_bytes : (n : ℕ) → n < 2 ^ 32 → n / 16777216 % 256 ∷ n / 65536 % 256 ∷ n / 256 % 256 ∷ n % 256 ∷ [] ≡ long n
+long_bytes n h = ap (λ (b : ℕ). b ∷ n / 65536 % 256 ∷ n / 256 % 256 ∷ n % 256 ∷ []) (omega arith)
+
+-- what is written from the start on
+pub put_over : (writer then : Writer) (bytes : List ℕ) → writer.place ≡ 0 → Puts writer bytes then → then.out.now ≡ over bytes writer.out.now
+put_over writer then bytes start put =
+    let out = writer.out.now in
+    let same : 0 + length bytes ≡ length bytes = omega arith in
+    put.3 ∙ ap (λ (p : ℕ). paste out p bytes (length bytes)) start ∙ paste_all out 0 bytes (length bytes) refl ∙ ap (λ (n : ℕ). bytes ++ drop n out) same
 
 joined_push : (f : ℕ → List ℕ) (xs : List ℕ) (x : ℕ) → flat_map f xs ++ f x ≡ flat_map f (xs ++ x ∷ [])
 joined_push f xs x = flat_map_more f [] xs x
@@ -52,56 +64,54 @@ joined_long f size each (x ∷ xs) =
     omega (arith, mul-suc size (length xs))
 
 -- the entries of the levels below one level more
-module _ (g : Ledger) (out : List ℕ) (place : ℕ) (room : place + 6 * length (counted_of g) ≤ length out) where
+module _ (g : Ledger) (writer : Writer) (room : writer.place + 6 * length (counted_of g) ≤ length writer.out.now) where
   abbrev entries_below : ℕ → List ℕ
   entries_below level = flat_map (level_bytes g) (counted_below g level)
 
   abbrev passes : ℕ → Bool
   passes l = ltb 0 (pixels_at g l)
 
-  below_long : (level : ℕ) → length (entries_below level) ≡ 6 * length (counted_below g level)
-  below_long level = joined_long (level_bytes g) 6 (λ x. refl) (counted_below g level)
+  module _ (mid : Writer) (level : ℕ) (put : Puts writer (entries_below level) mid) (within : level < g.levels) where
+    so_far : length (entries_below level) ≡ 6 * length (counted_below g level)
+    so_far = joined_long (level_bytes g) 6 (λ x. refl) (counted_below g level)
 
-  module _ (mid : List ℕ) (at level : ℕ) (put : PutAt out place (entries_below level) at mid) (within : level < g.levels) where
-    pub level_room : 0 < pixels_at g level → at + 6 ≤ length out
+    fits : writer.place + length (entries_below level) ≤ length writer.out.now
+    fits = let long = so_far in let rest = kept_grows passes level g.levels (omega arith) in omega arith
+
+    pub level_room : 0 < pixels_at g level → mid.place + 6 ≤ length mid.out.now
     level_room some =
         let grown = ap length (kept_yes passes level (lt-ltb _ _ some)) ∙ length_push (counted_below g level) level in
         let rest = kept_grows passes (level + 1) g.levels (omega arith) in
-        let long_so_far = below_long level in
-        let e = put.0 in omega arith
+        let long = so_far in
+        omega (arith, put.1, put.2)
 
-    pub level_put : (next : ℕ) (then : List ℕ) → 0 < pixels_at g level → PutAt mid at (level_bytes g level) next then → PutAt out place (entries_below (level + 1)) next then
-    level_put next then some more =
-        let fits = level_room some in
-        let e = put.0 in
-        let both = put_put out mid then place at next (entries_below level) (level_bytes g level) (omega arith) put more in
-        let grown : entries_below level ++ level_bytes g level ≡ entries_below (level + 1) =
-        joined_push (level_bytes g) (counted_below g level) level ∙ ap (flat_map (level_bytes g)) (sym (kept_yes passes level (lt-ltb _ _ some))) in
-        subst (λ (bytes : List ℕ). PutAt out place bytes next then) grown both
+    pub level_put : (then : Writer) → 0 < pixels_at g level → Puts mid (level_bytes g level) then → Puts writer (entries_below (level + 1)) then
+    level_put then some more =
+        put_same writer then _ _ (joined_push (level_bytes g) (counted_below g level) level ∙ ap (flat_map (level_bytes g)) (sym (kept_yes passes level (lt-ltb _ _ some))))
+        (put_put writer mid then (entries_below level) (level_bytes g level) fits put more)
 
-    pub level_skipped : pixels_at g level ≤ 0 → PutAt out place (entries_below (level + 1)) at mid
-    level_skipped none =
-        subst (λ (bytes : List ℕ). PutAt out place bytes at mid) (ap (flat_map (level_bytes g)) (sym (kept_no passes level (le-ltb _ _ none)))) put
+    pub level_skipped : pixels_at g level ≤ 0 → Puts writer (entries_below (level + 1)) mid
+    level_skipped none = put_same writer mid _ _ (ap (flat_map (level_bytes g)) (sym (kept_no passes level (le-ltb _ _ none)))) put
 
 -- the entries of one bin more
-module _ (t : Table) (out : List ℕ) (place : ℕ) (room : place + 4 * length t.bounds ≤ length out) where
+module _ (t : Table) (writer : Writer) (room : writer.place + 4 * length t.bounds ≤ length writer.out.now) where
   abbrev bins_below : ℕ → List ℕ
   bins_below bin = flat_map (bin_bytes t) (range_with_len 0 bin)
 
-  module _ (mid : List ℕ) (at bin : ℕ) (put : PutAt out place (bins_below bin) at mid) (within : bin < length t.bounds) where
-    pub bin_room : at + 4 ≤ length out
-    bin_room =
-        let long_so_far = joined_long (bin_bytes t) 4 (λ x. refl) (range_with_len 0 bin) in
-        let many = length-range_with_len 0 bin in
-        let e = put.0 in omega arith
+  module _ (mid : Writer) (bin : ℕ) (put : Puts writer (bins_below bin) mid) (within : bin < length t.bounds) where
+    bins_so_far : length (bins_below bin) ≡ 4 * bin
+    bins_so_far = let many = length-range_with_len 0 bin in let long = joined_long (bin_bytes t) 4 (λ x. refl) (range_with_len 0 bin) in omega arith
 
-    pub bin_put : (next : ℕ) (then : List ℕ) → PutAt mid at (bin_bytes t bin) next then → PutAt out place (bins_below (bin + 1)) next then
-    bin_put next then more =
-        let fits = bin_room in
-        let e = put.0 in
-        let both = put_put out mid then place at next (bins_below bin) (bin_bytes t bin) (omega arith) put more in
-        let grown : bins_below bin ++ bin_bytes t bin ≡ bins_below (bin + 1) = joined_push (bin_bytes t) (range_with_len 0 bin) bin ∙ ap (flat_map (bin_bytes t)) (sym (counting_more bin)) in
-        subst (λ (bytes : List ℕ). PutAt out place bytes next then) grown both
+    pub bin_room : mid.place + 4 ≤ length mid.out.now
+    bin_room =
+        let long = bins_so_far in
+        omega (arith, put.1, put.2)
+
+    pub bin_put : (then : Writer) → Puts mid (bin_bytes t bin) then → Puts writer (bins_below (bin + 1)) then
+    bin_put then more =
+        let long = bins_so_far in
+        put_same writer then _ _ (joined_push (bin_bytes t) (range_with_len 0 bin) bin ∙ ap (flat_map (bin_bytes t)) (sym (counting_more bin)))
+        (put_put writer mid then (bins_below bin) (bin_bytes t bin) (omega arith) put more)
 
 -- how many levels have pixels, counted on the levels and on their pixels
 counted_upto : (g : Ledger) (k : ℕ) → k ≤ length g.at → count_by (ltb 0) (take k g.at) ≡ length (counted_below g k)
@@ -137,24 +147,22 @@ bytes_long g t =
     let both = length-append (levels_bytes g) (bins_bytes t) in omega arith
 
 -- the five parts one after the other are the bytes of the pair
-pub whole_put : (g : Ledger) (t : Table) (c : ℕ) (out o1 o2 o3 o4 o5 : List ℕ) (p1 p2 p3 p4 p5 : ℕ) → length (bytes_of g t) ≤ length out → c ≡ length (counted_of g) →
-    PutAt out 0 (head_bytes g.levels) p1 o1 → PutAt o1 p1 (word c) p2 o2 → PutAt o2 p2 (flat_map (level_bytes g) (counted_of g)) p3 o3 →
-    PutAt o3 p3 (word (length t.bounds)) p4 o4 → PutAt o4 p4 (flat_map (bin_bytes t) (range_with_len 0 (length t.bounds))) p5 o5 → PutAt out 0 (bytes_of g t) p5 o5
+pub whole_put : (g : Ledger) (t : Table) (w0 w1 w2 w3 w4 w5 : Writer) → w0.place + length (bytes_of g t) ≤ length w0.out.now →
+    Puts w0 (head_bytes g.levels) w1 → Puts w1 (word (length (counted_of g))) w2 → Puts w2 (flat_map (level_bytes g) (counted_of g)) w3 →
+    Puts w3 (word (length t.bounds)) w4 → Puts w4 (flat_map (bin_bytes t) (range_with_len 0 (length t.bounds))) w5 → Puts w0 (bytes_of g t) w5
 unfolding bytes_of
-whole_put g t c out o1 o2 o3 o4 o5 p1 p2 p3 p4 p5 room is a b d e f =
+whole_put g t w0 w1 w2 w3 w4 w5 room a b d e f =
     let levels = flat_map (level_bytes g) (counted_of g) in
     let bins = flat_map (bin_bytes t) (range_with_len 0 (length t.bounds)) in
-    let front : List ℕ → List ℕ = λ xs. head_bytes g.levels ++ (word c ++ xs) in
+    let front : List ℕ → List ℕ = λ xs. head_bytes g.levels ++ (word (length (counted_of g)) ++ xs) in
     let total = bytes_long g t in
     let levels_long = entries_long g in
     let ends_long = length-append levels (word (length t.bounds)) in
-    let ab = put_put out o1 o2 0 p1 p2 (head_bytes g.levels) (word c) (omega arith) a b in
-    let abd = put_put out o2 o3 0 p2 p3 (front []) levels (omega arith) ab d in
-    let abde = put_put out o3 o4 0 p3 p4 (front levels) (word (length t.bounds)) (omega arith) abd e in
-    let all = put_put out o4 o5 0 p4 p5 (front (levels ++ word (length t.bounds))) bins (omega arith) abde f in
-    let same : front ((levels ++ word (length t.bounds)) ++ bins) ≡ bytes_of g t =
-    ap front (append_assoc levels (word (length t.bounds)) bins) ∙ ap (λ (n : ℕ). head_bytes g.levels ++ (word n ++ (levels ++ bins_bytes t))) is in
-    subst (λ (bytes : List ℕ). PutAt out 0 bytes p5 o5) same all
+    let ab = put_put w0 w1 w2 (head_bytes g.levels) (word (length (counted_of g))) (omega arith) a b in
+    let abd = put_put w0 w2 w3 (front []) levels (omega arith) ab d in
+    let abde = put_put w0 w3 w4 (front levels) (word (length t.bounds)) (omega arith) abd e in
+    let all = put_put w0 w4 w5 (front (levels ++ word (length t.bounds))) bins (omega arith) abde f in
+    put_same w0 w5 _ _ (ap front (append_assoc levels (word (length t.bounds)) bins)) all
 
 -- the row that fits: none, or an output too short
 pub write_enough : (g : Ledger) (t : Table) (room : ℕ) → g.levels ≡ t.levels → length (bytes_of g t) ≤ room → write_row g t room ≡ None

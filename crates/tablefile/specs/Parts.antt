@@ -15,6 +15,7 @@ use Rattle.tablefile.specs.declared.body.Body.{Body}
 use Rattle.tablefile.specs.declared.body.BinEntry.{BinEntry}
 use Rattle.tablefile.specs.declared.body.Bins.{Bins}
 use Rattle.tablefile.specs.declared.body.LevelEntry.{LevelEntry}
+use Rattle.tablefile.specs.declared.writer.Writer.{Writer}
 use Rattle.tablefile.specs.Bytes.{bytes_of}
 use Rattle.tablefile.specs.Numbers.{word_at, long_at}
 use Rattle.tablefile.specs.Fields.{levels_in, counted_in, level_place, level_in, pixels_in, bins_place, bins_in, bin_place, bound_in, representative_in}
@@ -91,6 +92,8 @@ GotTable body then table =
 abbrev pub GotPair : List ℕ → Histogram × LevelTable → Type 0
 GotPair file pair = (bytes_of (ledger_of pair.0) (table_of pair.1) ≡ file) × ((ledger_of pair.0).levels ≡ (table_of pair.1).levels)
 
--- The bytes are written over the cells of an output from a place on, and the place after them is returned.
-abbrev pub PutAt : List ℕ → ℕ → List ℕ → ℕ → List ℕ → Type 0
-PutAt out place bytes next then = (next ≡ place + length bytes) × (then ≡ paste out place bytes (length bytes))
+-- The bytes are written over the cells from a writer's place on, which then stands after them. The cells are still those that were lent.
+abbrev pub Puts : Writer → List ℕ → Writer → Type 0
+Puts writer bytes then =
+    (then.out.ghost_name ≡ writer.out.ghost_name) × (length then.out.now ≡ length writer.out.now) × (then.place ≡ writer.place + length bytes)
+    × (then.out.now ≡ paste writer.out.now writer.place bytes (length bytes))

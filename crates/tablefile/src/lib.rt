@@ -6,6 +6,7 @@ mod fault;
 mod numbers;
 mod reads;
 mod trips;
+mod writer;
 mod writes;
 
 pub use reads::read;

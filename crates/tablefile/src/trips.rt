@@ -34,7 +34,7 @@ pub fn round_trip(
     ensures back { ReadBack (ledger_of histogram.now) (table_of table.now) result histogram_back.old histogram_back.new table_back.old table_back.new }
 {
     let written = write(histogram, table, out)?;
-    read(&out[0..written], histogram_back, table_back)?;
+    read(&out[..written], histogram_back, table_back)?;
     Ok(written)
 }
 

@@ -1,71 +1,70 @@
-// Writing a histogram and a table as a file. Each part is written at its place and gives the place after it.
-ghost use Rattle.std.specs.Prelude.{◌+◌, ◌*◌, ◌<◌, ◌≤◌, ◌++◌, length};
+// Writing a histogram and a table as a file, each part after the part before it.
+ghost use Rattle.std.specs.Prelude.{◌+◌, ◌*◌, ◌≤◌, ◌++◌, length};
 ghost use Rattle.std.specs.List.{range_with_len, flat_map};
 ghost use Rattle.counting.specs.Meaning.{ledger_of};
 ghost use Rattle.counting.specs.Outputs.{Wrote};
 ghost use Rattle.tables.specs.Meaning.{table_of};
 ghost use Rattle.tablefile.specs.Numbers.{word, long};
 ghost use Rattle.tablefile.specs.Bytes.{head_bytes, counted_of, level_bytes, bin_bytes, bytes_of};
-ghost use Rattle.tablefile.specs.Parts.{PutAt};
+ghost use Rattle.tablefile.specs.Parts.{Puts};
 ghost use Rattle.tablefile.specs.Promises.{write_row};
 
-use crate::numbers::{EDITION, put16, put32};
+use crate::numbers::EDITION;
+use crate::writer::Writer;
 use counting::Histogram;
 use refusals::Refusal;
 use tables::LevelTable;
 
-// Section 0.
-fn put_head(out: &mut [u8], levels: u16) -> usize
-    requires { 3 ≤ length out.old }
-    ensures { PutAt out.old 0 (head_bytes levels) result out.new }
-{
-    out[0] = EDITION;
-    put16(out, 1, levels)
-}
+impl Writer<'_> {
+    // Section 0.
+    fn put_head(&mut self, levels: u16)
+        requires { self.old.place + 3 ≤ length self.old.out.now }
+        ensures { Puts self.old (head_bytes levels) self.new }
+    {
+        self.put([EDITION]);
+        self.put(levels.to_be_bytes());
+    }
 
-// An entry of section 1.
-fn put_level(out: &mut [u8], place: usize, level: u16, pixels: u32) -> usize
-    requires { place + 6 ≤ length out.old }
-    ensures { PutAt out.old place (word level ++ long pixels) result out.new }
-{
-    let next = put16(out, place, level);
-    put32(out, next, pixels)
-}
+    // An entry of section 1.
+    fn put_level(&mut self, level: u16, pixels: u32)
+        requires { self.old.place + 6 ≤ length self.old.out.now }
+        ensures { Puts self.old (word level ++ long pixels) self.new }
+    {
+        self.put(level.to_be_bytes());
+        self.put(pixels.to_be_bytes());
+    }
 
-// The entries of section 1.
-fn put_level_entries(out: &mut [u8], place: usize, histogram: &Histogram) -> usize
-    requires { place + 6 * length (counted_of (ledger_of histogram.now)) ≤ length out.old }
-    ensures { PutAt out.old place (flat_map (level_bytes (ledger_of histogram.now)) (counted_of (ledger_of histogram.now))) result out.new }
-{
-    let mut at = place;
-    for level in 0..histogram.levels() {
-        let pixels = histogram.pixels_at(level);
-        if pixels > 0 {
-            at = put_level(out, at, level, pixels);
+    // The entries of section 1.
+    fn put_levels(&mut self, histogram: &Histogram)
+        requires { self.old.place + 6 * length (counted_of (ledger_of histogram.now)) ≤ length self.old.out.now }
+        ensures { Puts self.old (flat_map (level_bytes (ledger_of histogram.now)) (counted_of (ledger_of histogram.now))) self.new }
+    {
+        for (level, pixels) in histogram.pixels().iter().enumerate() {
+            if *pixels > 0 {
+                self.put_level(level as u16, *pixels);
+            }
         }
     }
-    at
-}
 
-// An entry of section 2.
-fn put_bin(out: &mut [u8], place: usize, bound: u16, representative: u16) -> usize
-    requires { place + 4 ≤ length out.old }
-    ensures { PutAt out.old place (word bound ++ word representative) result out.new }
-{
-    let next = put16(out, place, bound);
-    put16(out, next, representative)
-}
-
-// The entries of section 2.
-fn put_bin_entries(out: &mut [u8], place: usize, table: &LevelTable) -> usize
-    requires { place + 4 * length (table_of table.now).bounds ≤ length out.old }
-    ensures { PutAt out.old place (flat_map (bin_bytes (table_of table.now)) (range_with_len 0 (length (table_of table.now).bounds))) result out.new }
-{
-    let mut at = place;
-    for bin in 0..table.bins() {
-        at = put_bin(out, at, table.bound(bin), table.representative(bin));
+    // An entry of section 2.
+    fn put_bin(&mut self, bound: u16, representative: u16)
+        requires { self.old.place + 4 ≤ length self.old.out.now }
+        ensures { Puts self.old (word bound ++ word representative) self.new }
+    {
+        self.put(bound.to_be_bytes());
+        self.put(representative.to_be_bytes());
     }
-    at
+
+    // The entries of section 2.
+    fn put_bins(&mut self, table: &LevelTable)
+        requires { self.old.place + 4 * length (table_of table.now).bounds ≤ length self.old.out.now }
+        ensures { Puts self.old (flat_map (bin_bytes (table_of table.now)) (range_with_len 0 (length (table_of table.now).bounds))) self.new }
+    {
+        // a table lends no list of its bins, so they are asked for by number
+        for bin in 0..table.bins() {
+            self.put_bin(table.bound(bin), table.representative(bin));
+        }
+    }
 }
 
 // Writes the file of the histogram and the table over the first bytes of the output; gives how many.
@@ -81,13 +80,15 @@ pub fn write(histogram: &Histogram, table: &LevelTable, out: &mut [u8]) -> Resul
     }
     let counted = histogram.counted_levels();
     let bins = table.bins();
-    let needed = 7 + 6 * counted as usize + 4 * bins as usize;
+    let needed = 7 + 6 * usize::from(counted) + 4 * usize::from(bins);
     if out.len() < needed {
         return Err(Refusal::OutputTooShort { needed });
     }
-    let place = put_head(out, levels);
-    let place = put16(out, place, counted);
-    let place = put_level_entries(out, place, histogram);
-    let place = put16(out, place, bins);
-    Ok(put_bin_entries(out, place, table))
+    let mut writer = Writer::new(out);
+    writer.put_head(levels);
+    writer.put(counted.to_be_bytes());
+    writer.put_levels(histogram);
+    writer.put(bins.to_be_bytes());
+    writer.put_bins(table);
+    Ok(needed)
 }

@@ -1,11 +1,12 @@
-use Rattle.std.proofs.Common.{ℕ, ◌≤◌, length, refl, ◌∙◌, subst, arith}
+use Rattle.std.proofs.Common.{◌≡◌, ◌≤◌, length, sym, refl, ◌∙◌, ap, arith, lit<}
+use Rattle.std.proofs.lemmas.Grind.{common_steps}
 use Rattle.counting.specs.Meaning.{ledger_of}
+use Rattle.counting.specs.Outputs.{over}
 use Rattle.tables.specs.Meaning.{table_of}
-use Rattle.tablefile.specs.Bytes.{head_bytes, bytes_of}
+use Rattle.tablefile.specs.Bytes.{head_bytes, counted_of, bytes_of}
 use Rattle.tablefile.specs.Numbers.{word}
-use Rattle.tablefile.specs.Parts.{PutAt}
 use Rattle.counting.proofs.Ledgers.{sound_histogram}
-use Rattle.tablefile.proofs.Writing.{counted_number, entries_long, bytes_long, whole_put, put_over, write_enough, write_short}
+use Rattle.tablefile.proofs.Writing.{counted_number, entries_long, bytes_long, whole_put, put_over, put_same, word_bytes, write_enough, write_short}
 use Rattle.tablefile.proofs.writes.write.Goals as goal
 
 pub returns-then-out-needed : goal.returns-then-out-needed
@@ -17,23 +18,26 @@ returns-then-out-needed c =
     let all = bytes_long g t in
     (write_short g t _ _ (omega arith) (omega arith) (omega arith), refl)
 
-pub put_level_entries-place-requires : goal.put_level_entries-place-requires
-put_level_entries-place-requires c =
+pub put_levels-requires : goal.put_levels-requires
+put_levels-requires c =
     let h = c.args.histogram.now in
     let many = counted_number (ledger_of h) (sound_histogram h).width in
+    let cells = ap length c.new-writer.ensures.cells in
     omega arith
 
-pub put16-place-requires-2 : goal.put16-place-requires-2
-put16-place-requires-2 c =
+pub put-requires-2 : goal.put-requires-2
+put-requires-2 c =
     let h = c.args.histogram.now in
     let many = counted_number (ledger_of h) (sound_histogram h).width in
+    let cells = ap length c.new-writer.ensures.cells in
     let levels = entries_long (ledger_of h) in
-    omega arith
+    (lit< tt, omega arith)
 
-pub put_bin_entries-requires : goal.put_bin_entries-requires
-put_bin_entries-requires c =
+pub put_bins-requires : goal.put_bins-requires
+put_bins-requires c =
     let h = c.args.histogram.now in
     let many = counted_number (ledger_of h) (sound_histogram h).width in
+    let cells = ap length c.new-writer.ensures.cells in
     let levels = entries_long (ledger_of h) in
     omega arith
 
@@ -46,10 +50,18 @@ returns c =
     let many = counted_number g (sound_histogram h).width in
     let all = bytes_long g t in
     let room : length (bytes_of g t) ≤ length out = omega arith in
-    let head = subst (λ (n : ℕ). PutAt out 0 (head_bytes n) c.put_head-place.result c.put_head-place.new.out) c.levels-levels.ensures c.put_head-place.ensures in
-    let bins = subst (λ (n : ℕ). PutAt c.put_level_entries-place.new.out c.put_level_entries-place.result (word n) c.put16-place-2.result c.put16-place-2.new.out) c.bins-bins.ensures c.put16-place-2.ensures in
-    let put = whole_put g t c.counted_levels-counted.result out c.put_head-place.new.out c.put16-place.new.out c.put_level_entries-place.new.out c.put16-place-2.new.out c.put_bin_entries.new.out
-    c.put_head-place.result c.put16-place.result c.put_level_entries-place.result c.put16-place-2.result c.put_bin_entries.result
-    room (c.counted_levels-counted.ensures ∙ many) head c.put16-place.ensures c.put_level_entries-place.ensures bins c.put_bin_entries.ensures in
-    let written = put_over out c.put_bin_entries.new.out (bytes_of g t) c.put_bin_entries.result put in
-    (write_enough g t (length out) (omega arith) room, written.0, written.1)
+    let start = c.new-writer.ensures in
+    let cells = ap length start.cells in
+    let w0 = c.new-writer.result in
+    let w1 = c.put_head.new.self in
+    let w2 = c.put.new.self in
+    let w3 = c.put_levels.new.self in
+    let w4 = c.put-2.new.self in
+    let w5 = c.put_bins.new.self in
+    let head = put_same w0 w1 _ _ (ap head_bytes c.levels-levels.ensures) c.put_head.ensures in
+    let counted = put_same w1 w2 _ (word (length (counted_of g))) (c.to_be_bytes.ensures ∙ word_bytes _ c.counted_levels-counted.type_inv ∙ ap word (c.counted_levels-counted.ensures ∙ many)) c.put.ensures in
+    let bins = put_same w3 w4 _ (word (length t.bounds)) (c.to_be_bytes-2.ensures ∙ word_bytes _ c.bins-bins.type_inv ∙ ap word c.bins-bins.ensures) c.put-2.ensures in
+    let put = whole_put g t w0 w1 w2 w3 w4 w5 (omega arith) head counted c.put_levels.ensures bins c.put_bins.ensures in
+    let written = put_over w0 w5 (bytes_of g t) start.place put ∙ ap (over (bytes_of g t)) start.cells in
+    let same = sym (put.0 ∙ start.same_reference) in
+    (write_enough g t (length out) (omega arith) room, omega arith, grind (arith, common_steps))
