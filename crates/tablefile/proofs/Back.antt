@@ -1,6 +1,7 @@
 -- What was written reads back as the pair that was written.
 use Rattle.std.proofs.Common.{◌≡◌, ℕ, ◌-◌, eqb, List, [], ◌∷◌, length, take, Some, None, sym, refl, ap, ◌∙◌, ap₂, inl, inr, arith}
 use Rattle.std.proofs.lemmas.List.{take_at}
+use Rattle.std.proofs.lemmas.Option.{none-some}
 use Rattle.std.proofs.lemmas.Bool.{cases_Bool, eqb-true}
 use Rattle.counting.specs.Ledger.{Ledger}
 use Rattle.counting.specs.Meaning.{ledger_of}
@@ -14,7 +15,6 @@ use Rattle.tablefile.specs.Bytes.{bytes_of}
 use Rattle.tablefile.specs.Faults.{first_fault}
 use Rattle.tablefile.specs.Promises.{Reads, write_row}
 use Rattle.tablefile.specs.Theorems.{Pair}
-use Rattle.tablefile.proofs.Faults.{none_some}
 use Rattle.tablefile.proofs.Meaning.{pairs_apart}
 use Rattle.tablefile.proofs.Pairs.{pair_faultless}
 use Rattle.counting.proofs.Ledgers.{sound_histogram}
@@ -23,7 +23,7 @@ use Rattle.counting.proofs.Ledgers.{sound_histogram}
 same_levels : (g : Ledger) (t : Table) (room : ℕ) → write_row g t room ≡ None → g.levels ≡ t.levels
 same_levels g t room none = elim (cases_Bool (eqb g.levels t.levels)) [
   | inl e ↦ eqb-true _ _ e
-  | inr ne ↦ (let other : write_row g t room ≡ Some (8, g.levels ∷ t.levels ∷ []) = rw ne refl in absurd (none_some _ (sym none ∙ other)))
+  | inr ne ↦ (let other : write_row g t room ≡ Some (8, g.levels ∷ t.levels ∷ []) = rw ne refl in absurd (none-some _ (sym none ∙ other)))
 ]
 
 module _ (h : Histogram) (t : LevelTable) (out then : List ℕ) (room written : ℕ)
@@ -38,7 +38,7 @@ module _ (h : Histogram) (t : LevelTable) (out then : List ℕ) (room written : 
       ap (take written) front ∙ take_at (bytes_of (ledger_of h) (table_of t)) _ written (sym number)
 
   pub never_refused : (x : Row) → first_fault (take written then) ≡ Some x → ⊥
-  never_refused x e = none_some x (sym (pair_faultless (ledger_of h) (table_of t) pair) ∙ sym (ap first_fault part_is) ∙ e)
+  never_refused x e = none-some x (sym (pair_faultless (ledger_of h) (table_of t) pair) ∙ sym (ap first_fault part_is) ∙ e)
 
   pub same_pair : (back : Histogram) (table_back : LevelTable) → Reads (take written then) (ledger_of back) (table_of table_back) →
       (ledger_of back ≡ ledger_of h) × (table_of table_back ≡ table_of t)

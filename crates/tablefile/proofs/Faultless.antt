@@ -2,6 +2,8 @@
 use Rattle.std.proofs.Common.{◌≡◌, ℕ, zero, suc, ◌+◌, ◌/◌, ◌%◌, ◌<◌, ◌≤◌, leb, List, [], ◌∷◌, ◌++◌, map, length, get_or, drop, None, sym, refl, ap, ◌∙◌, ap₂, inl, inr, append_assoc, append-nil, add-one, arith}
 use Rattle.std.specs.List.{range_with_len, flat_map}
 use Rattle.std.proofs.lemmas.List.{drop_more, drop_all, flat_map_more}
+use Rattle.std.proofs.lemmas.List.Folds.{flat_map-map}
+use Rattle.std.proofs.lemmas.Option.{none-some}
 use Rattle.std.proofs.lemmas.List.FromFn.{length-map-range_with_len, get_or-map-range_with_len}
 use Rattle.std.proofs.lemmas.Bool.{and_parts, leb-true, cases_lt, cases_eq}
 use Rattle.counting.specs.Ledger.{Ledger, pixels_at}
@@ -12,7 +14,7 @@ use Rattle.tablefile.specs.Fields.{levels_in, counted_in, level_place, level_in,
 use Rattle.tablefile.specs.Faults.{first_of, edition_fault, level_fault, bin_fault, rest_fault, first_fault}
 use Rattle.tablefile.specs.Parts.{ledger_in, table_in}
 use Rattle.tablefile.specs.Theorems.{File}
-use Rattle.tablefile.proofs.Faults.{none_some, first_none, part_none, edition_cut, edition_other, levels_none, bins_none, rest_some}
+use Rattle.tablefile.proofs.Faults.{first_none, part_none, edition_cut, edition_other, levels_none, bins_none, rest_some}
 use Rattle.tablefile.proofs.Kept.{counting_more}
 use Rattle.tablefile.proofs.Levels.{Entry, laid_at, at_entry, counted_are}
 use Rattle.tablefile.proofs.Entries.{entries, entry_reach}
@@ -29,12 +31,12 @@ pub record Faultless (file : List ℕ) : Type 0 where
 
 edition_none : (file : List ℕ) → edition_fault file ≡ None → (1 ≤ length file) × (get_or file 0 0 ≡ 5)
 edition_none file none = elim (cases_lt (length file) 1) [
-  | inl cut ↦ absurd (none_some _ (sym none ∙ edition_cut file cut))
-  | inr some ↦ (some, elim (cases_eq (get_or file 0 0) 5) [ inl e ↦ e | inr ne ↦ absurd (none_some _ (sym none ∙ edition_other file some ne)) ])
+  | inl cut ↦ absurd (none-some _ (sym none ∙ edition_cut file cut))
+  | inr some ↦ (some, elim (cases_eq (get_or file 0 0) 5) [ inl e ↦ e | inr ne ↦ absurd (none-some _ (sym none ∙ edition_other file some ne)) ])
 ]
 
 rest_end : (file : List ℕ) (end : ℕ) → rest_fault file end ≡ None → length file ≤ end
-rest_end file end none = elim (cases_lt end (length file)) [ inl more ↦ absurd (none_some _ (sym none ∙ rest_some file end more)) | inr all ↦ all ]
+rest_end file end none = elim (cases_lt end (length file)) [ inl more ↦ absurd (none-some _ (sym none ∙ rest_some file end more)) | inr all ↦ all ]
 
 pub faultless : (file : List ℕ) → first_fault file ≡ None → Faultless file
 unfolding first_fault
@@ -52,10 +54,6 @@ faultless file none =
       bins = bins_none file (levels_in file) (bins_place file) d.0;
       rest = rest_end file _ d.1;
     }
-
-joined_map : (f : ℕ → List ℕ) (g : ℕ → ℕ) (xs : List ℕ) → flat_map f (map g xs) ≡ flat_map (λ x. f (g x)) xs
-joined_map f g [] = refl
-joined_map f g (x ∷ xs) = ap (λ (ys : List ℕ). f (g x) ++ ys) (joined_map f g xs)
 
 -- a file cut at its places
 module _ (file : List ℕ) (bytes : File file) where
@@ -126,7 +124,7 @@ module _ (file : List ℕ) (bytes : File file) where
         let are : counted_of g ≡ map (level_in file) (range_with_len 0 c) = counted_are file k c fine.head.2 listed in
         let many : c ≡ length (counted_of g) = sym (ap length are ∙ length-map-range_with_len (level_in file) 0 c) in
         let same : flat_map (λ i. level_bytes g (level_in file i)) (range_with_len 0 c) ≡ flat_map (level_bytes g) (counted_of g) =
-        sym (joined_map (level_bytes g) (level_in file) (range_with_len 0 c)) ∙ ap (flat_map (level_bytes g)) (sym are) in
+        sym (flat_map-map (level_bytes g) (level_in file) (range_with_len 0 c)) ∙ ap (flat_map (level_bytes g)) (sym are) in
         word_cut 3 fine.levels.0 ∙ ap₂ (λ (n : ℕ) (xs : List ℕ). word n ++ xs) many
         (parts_cut (λ i. level_bytes g (level_in file i)) level_place c level_cut ∙ ap (λ (xs : List ℕ). xs ++ drop place file) same)
 

@@ -1,6 +1,7 @@
 -- When a part of a file has a fault and when not, and the first of several faults.
 use Rattle.std.proofs.Common.{◌≡◌, ℕ, zero, suc, ◌+◌, ◌<◌, ◌≤◌, Bool, true, false, ◌&&◌, leb, List, [], ◌∷◌, length, get_or, IsErrAnd, Some, None, Ok, Err, Option, Result, sym, refl, ap, ◌∙◌, subst, ap₂, inl, inr, add-one, arith}
 use Rattle.std.proofs.lemmas.Bool.{lt-ltb, le-ltb, lt-leb, le-leb, leb-true, eq-eqb, ne_eqb, cases_lt, cases_Bool, and_parts}
+use Rattle.std.proofs.lemmas.Option.{none-some}
 use Rattle.counting.specs.Outputs.{Row}
 use Rattle.tablefile.specs.Fields.{levels_in, counted_in, bins_place, bins_in, bin_place}
 use Rattle.tablefile.specs.Faults.{first, first_of, part_fault, edition_fault, head_fault, level_fault, levels_fault, bin_fault, bins_fault, rest_fault, first_fault}
@@ -8,9 +9,6 @@ use Rattle.tablefile.specs.Rows.{number_row}
 use Rattle.tablefile.specs.Parts.{Judged}
 use Rattle.tablefile.specs.declared.fault.NumberFault.{NumberFault}
 use Rattle.tablefile.specs.declared.fault.NumberFault.TheVariants.{CutShort}
-
-pub none_some : {X : Type 0} (x : X) → None ≡ Some x → ⊥
-none_some x e = let z : ◌≡◌ {A = ℕ} 0 1 = cc in omega arith
 
 -- the exit of a `?`, where the fault goes into another as the same row
 pub judged_err : {X E : Type 0} (row : E → Row) (fault : Option Row) (P : X → Type 0) (r : Result X E) (x : Row) → IsErrAnd r (λ y. row y ≡ x) → fault ≡ Some x → Judged row fault P r
@@ -38,8 +36,8 @@ module _ (file : List ℕ) (section place size : ℕ) (rule : Bool) where
 
   pub part_none : part_fault file section place size rule ≡ None → (place + size ≤ length file) × (rule ≡ true)
   part_none none = elim (cases_lt (length file) (place + size)) [
-    | inl cut ↦ absurd (none_some _ (sym none ∙ part_cut cut))
-    | inr fits ↦ (fits, elim (cases_Bool rule) [ inl e ↦ e | inr e ↦ absurd (none_some _ (sym none ∙ part_broken fits e)) ])
+    | inl cut ↦ absurd (none-some _ (sym none ∙ part_cut cut))
+    | inr fits ↦ (fits, elim (cases_Bool rule) [ inl e ↦ e | inr e ↦ absurd (none-some _ (sym none ∙ part_broken fits e)) ])
   ]
 
 -- the edition byte
@@ -73,7 +71,7 @@ pub first_then : (a b : Option Row) → a ≡ None → first a b ≡ b
 first_then a b e = ap (λ (o : Option Row). first o b) e
 
 pub first_none : (a b : Option Row) → first a b ≡ None → (a ≡ None) × (b ≡ None)
-first_none (Some x) b e = absurd (none_some x (sym e))
+first_none (Some x) b e = absurd (none-some x (sym e))
 first_none None b e = (refl, e)
 
 -- the first fault of several entries

@@ -52,9 +52,6 @@ put_over writer then bytes start put =
     let same : 0 + length bytes ≡ length bytes = omega arith in
     put.3 ∙ ap (λ (p : ℕ). paste out p bytes (length bytes)) start ∙ paste_all out 0 bytes (length bytes) refl ∙ ap (λ (n : ℕ). bytes ++ drop n out) same
 
-joined_push : (f : ℕ → List ℕ) (xs : List ℕ) (x : ℕ) → flat_map f xs ++ f x ≡ flat_map f (xs ++ x ∷ [])
-joined_push f xs x = flat_map_more f [] xs x
-
 joined_long : (f : ℕ → List ℕ) (size : ℕ) → ((x : ℕ) → length (f x) ≡ size) → (xs : List ℕ) → length (flat_map f xs) ≡ size * length xs
 joined_long f size each [] = sym (mul-zero size)
 joined_long f size each (x ∷ xs) =
@@ -87,7 +84,7 @@ module _ (g : Ledger) (writer : Writer) (room : writer.place + 6 * length (count
 
     pub level_put : (then : Writer) → 0 < pixels_at g level → Puts mid (level_bytes g level) then → Puts writer (entries_below (level + 1)) then
     level_put then some more =
-        put_same writer then _ _ (joined_push (level_bytes g) (counted_below g level) level ∙ ap (flat_map (level_bytes g)) (sym (kept_yes passes level (lt-ltb _ _ some))))
+        put_same writer then _ _ (flat_map_more (level_bytes g) [] (counted_below g level) level ∙ ap (flat_map (level_bytes g)) (sym (kept_yes passes level (lt-ltb _ _ some))))
         (put_put writer mid then (entries_below level) (level_bytes g level) fits put more)
 
     pub level_skipped : pixels_at g level ≤ 0 → Puts writer (entries_below (level + 1)) mid
@@ -110,7 +107,7 @@ module _ (t : Table) (writer : Writer) (room : writer.place + 4 * length t.bound
     pub bin_put : (then : Writer) → Puts mid (bin_bytes t bin) then → Puts writer (bins_below (bin + 1)) then
     bin_put then more =
         let long = bins_so_far in
-        put_same writer then _ _ (joined_push (bin_bytes t) (range_with_len 0 bin) bin ∙ ap (flat_map (bin_bytes t)) (sym (counting_more bin)))
+        put_same writer then _ _ (flat_map_more (bin_bytes t) [] (range_with_len 0 bin) bin ∙ ap (flat_map (bin_bytes t)) (sym (counting_more bin)))
         (put_put writer mid then (bins_below bin) (bin_bytes t bin) (omega arith) put more)
 
 -- how many levels have pixels, counted on the levels and on their pixels

@@ -6,10 +6,7 @@ returns-in_err-read c =
     let w = c.in_ok-written.ensures in
     absurd (never_refused c.args.histogram.now c.args.table.now c.args.out.now c.write.new.out _ c.in_ok-written.written w.0 w.1 w.2 _ c.in_err-read.ensures.0)
 
-pub returns : goal.returns
-returns c =
+pub returns-clause-back : goal.returns-clause-back
+returns-clause-back c =
     let w = c.in_ok-written.ensures in
-    record {
-      wrote = w;
-      back = same_pair c.args.histogram.now c.args.table.now c.args.out.now c.write.new.out _ c.in_ok-written.written w.0 w.1 w.2 c.read.new.histogram c.read.new.table c.in_ok-read.ensures;
-    }
+    same_pair c.args.histogram.now c.args.table.now c.args.out.now c.write.new.out _ c.in_ok-written.written w.0 w.1 w.2 c.read.new.histogram c.read.new.table c.in_ok-read.ensures

@@ -14,11 +14,3 @@ unreachable-requires c =
     let front = ap₂ (λ (k : ℕ) (ps : List ℕ). of_pixels (take k ps)) (c.from.ensures ∙ read.1.1.1) read.1.0 in
     c.in-None.ensures (subst Sound (sym front) lawful)
 
-pub returns : goal.returns
-returns c =
-    let body = c.args.self.now in
-    let file = body.file.now in
-    let read = c.in_ok-pixels.ensures in
-    let front = ap₂ (λ (k : ℕ) (ps : List ℕ). of_pixels (take k ps)) (c.from.ensures ∙ read.1.1.1) read.1.0 in
-    let ledger = made_ledger file body.levels (counted_in file) (levels_none file body.levels read.0).2 body.range in
-    (read.0, (c.in-Some.ensures ∙ front ∙ ledger, read.1.1))

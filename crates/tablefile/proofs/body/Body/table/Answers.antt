@@ -15,9 +15,3 @@ unreachable-requires c =
     let is = lists ∙ ap (λ (k : ℕ). given k made.bounds.items made.representatives.items) read.1.1.1 ∙ read.1.0 in
     c.in-None.ensures (subst Lawful (sym is) lawful)
 
-pub returns : goal.returns
-returns c =
-    let read = c.in_ok-bounds.ensures in
-    let made = c.in_ok-bounds.field-0 in
-    let lists = ap₂ (λ (xs ys : List ℕ). given c.bins.new.self.levels xs ys) c.deref.ensures.0 c.deref-2.ensures.0 in
-    (read.0, (c.in-Some.ensures ∙ lists ∙ ap (λ (k : ℕ). given k made.bounds.items made.representatives.items) read.1.1.1 ∙ read.1.0, read.1.1))

@@ -4,8 +4,6 @@ use Rattle.tablefile.specs.Numbers.{word}
 use Rattle.tablefile.proofs.Writing.{put_none, put_same, bin_room, bin_put}
 use Rattle.tablefile.proofs.writer.Writer.put_bins.Goals as goal
 
-pub loop-bin-init : goal.loop-bin-init
-loop-bin-init c = put_none c.args.self.now
 
 pub put_bin-requires : goal.put_bin-requires
 put_bin-requires c = bin_room (table_of c.args.table.now) c.args.self.now c.requires c.loop-bin.self c.loop-bin.bin c.loop-bin.invariant (omega arith)

@@ -6,8 +6,6 @@ use Rattle.tablefile.proofs.Writing.{put_none, put_same, level_room, level_put, 
 use Rattle.tablefile.proofs.writer.Writer.put_levels.Goals as goal
 use Rattle.tablefile.proofs.writer.Writer.put_levels.Goals.{then-pixels-gt0, else-pixels-gt0}
 
-pub loop-level-init : goal.loop-level-init
-loop-level-init c = put_none c.args.self.now
 
 pub put_level-requires : goal.put_level-requires
 put_level-requires c =
