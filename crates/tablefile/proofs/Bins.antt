@@ -3,7 +3,7 @@ use Rattle.std.proofs.Common.{◌≡◌, ℕ, suc, ◌+◌, ◌-◌, ◌<◌, �
 use Rattle.std.specs.List.{range_with_len}
 use Rattle.std.proofs.lemmas.Bool.{and_parts, leb-true, ltb-true, eqb-true, eq-eqb}
 use Rattle.std.proofs.lemmas.List.FromFn.{map-range_with_len_more, length-map-range_with_len, get_or-map-range_with_len}
-use Rattle.tables.specs.Table.{Lawful, given}
+use Rattle.tables.specs.Table.{Lawful}
 use Rattle.tablefile.specs.Fields.{bins_in, bin_place, bound_in, representative_in}
 use Rattle.tablefile.specs.Faults.{first_of, part_fault, bin_rule, bin_fault, least_next}
 use Rattle.tablefile.specs.Numbers.{word_at}

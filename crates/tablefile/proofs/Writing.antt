@@ -38,12 +38,12 @@ put_none writer = (refl, refl, omega arith, paste_none writer.out.now writer.pla
 pub put_same : (writer then : Writer) (a b : List ℕ) → a ≡ b → Puts writer a then → Puts writer b then
 put_same writer then a b e put = subst (λ (bytes : List ℕ). Puts writer bytes then) e put
 
--- the bytes of a number
-pub word_bytes : (n : ℕ) → n < 2 ^ 16 → n / 256 % 256 ∷ n % 256 ∷ [] ≡ word n
-word_bytes n h = ap (λ (b : ℕ). b ∷ n % 256 ∷ []) (omega arith)
+-- the bytes of a number that fits
+pub put_word : (writer then : Writer) (n : ℕ) (bytes : List ℕ) → n < 2 ^ 16 → bytes ≡ n / 256 % 256 ∷ n % 256 ∷ [] → Puts writer bytes then → Puts writer (word n) then
+put_word writer then n bytes fits are put = put_same writer then bytes (word n) (are ∙ ap (λ (b : ℕ). b ∷ n % 256 ∷ []) (omega arith)) put
 
-pub long_bytes : (n : ℕ) → n < 2 ^ 32 → n / 16777216 % 256 ∷ n / 65536 % 256 ∷ n / 256 % 256 ∷ n % 256 ∷ [] ≡ long n
-long_bytes n h = ap (λ (b : ℕ). b ∷ n / 65536 % 256 ∷ n / 256 % 256 ∷ n % 256 ∷ []) (omega arith)
+pub put_long : (writer then : Writer) (n : ℕ) (bytes : List ℕ) → n < 2 ^ 32 → bytes ≡ n / 16777216 % 256 ∷ n / 65536 % 256 ∷ n / 256 % 256 ∷ n % 256 ∷ [] → Puts writer bytes then → Puts writer (long n) then
+put_long writer then n bytes fits are put = put_same writer then bytes (long n) (are ∙ ap (λ (b : ℕ). b ∷ n / 65536 % 256 ∷ n / 256 % 256 ∷ n % 256 ∷ []) (omega arith)) put
 
 -- what is written from the start on
 pub put_over : (writer then : Writer) (bytes : List ℕ) → writer.place ≡ 0 → Puts writer bytes then → then.out.now ≡ over bytes writer.out.now

@@ -1,5 +1,5 @@
 -- What the parts of the reader and of the writer promise each other.
-use Rattle.std.specs.Prelude.{◌≡◌, ℕ, zero, suc, ◌+◌, ◌<◌, ◌≤◌, List, map, length, take, drop, replicate, Some, None, Ok, Err, Option, Result, slice_index, slice_set}
+use Rattle.std.specs.Prelude.{◌≡◌, ℕ, zero, suc, ◌+◌, ◌<◌, ◌≤◌, List, map, length, take, drop, replicate, Some, None, Ok, Err, Option, Result, slice_set}
 use Rattle.std.proofs.Math.Seq.{paste}
 use Rattle.std.specs.List.{range_with_len}
 use Rattle.counting.specs.Ledger.{Ledger}
@@ -18,7 +18,7 @@ use Rattle.tablefile.specs.declared.body.LevelEntry.{LevelEntry}
 use Rattle.tablefile.specs.declared.writer.Writer.{Writer}
 use Rattle.tablefile.specs.Bytes.{bytes_of}
 use Rattle.tablefile.specs.Numbers.{word_at, long_at}
-use Rattle.tablefile.specs.Fields.{levels_in, counted_in, level_place, level_in, pixels_in, bins_place, bins_in, bin_place, bound_in, representative_in}
+use Rattle.tablefile.specs.Fields.{levels_in, counted_in, level_in, pixels_in, bins_place, bins_in, bin_place, bound_in, representative_in}
 
 -- the `size` bytes of the number at a place, or that it is cut short
 abbrev pub GotNumber : List ℕ → ℕ → ℕ → Result (List ℕ) NumberFault → Type 0

@@ -7,7 +7,7 @@ use arrayvec::ArrayVec;
 use counting::Histogram;
 use tables::LevelTable;
 
-// A file of so many levels, and the place of the byte that is read next.
+// A file of so many levels, and the place of the byte that is read next. A part with a fault ends the reading.
 #[derive(Drop)]
 pub(crate) struct Body<'a> {
     file: &'a [u8],
@@ -31,7 +31,7 @@ pub struct BinEntry {
     pub representative: u16,
 }
 
-// The bounds and the representatives of the bins, lowest first.
+// The bounds and the representatives of the bins, lowest first: two lists, since a table is made from two.
 #[derive(Drop)]
 pub struct Bins {
     pub bounds: ArrayVec<u16, 256>,
@@ -73,7 +73,8 @@ impl<'a> Body<'a> {
         Ok(bytes)
     }
 
-    // An entry of section 1, with the level that it has to reach and the pixels of the entries before it.
+    // An entry of section 1, with the level that it has to reach and the pixels of the entries before it. The entries of section 2
+    // have other numbers and rules and need other facts of those before them, so they have a reader of their own.
     fn level_entry(&mut self, least: u16, before: u32) -> Result<LevelEntry, LevelsFault>
         ensures { Judged (section_row 1) (part_fault self.old.file.now 1 self.old.place 6 (level_rule self.old.levels least before (word_at self.old.file.now self.old.place) (long_at self.old.file.now (self.old.place + 2)))) (GotLevel self.old before self.new) result }
     {
@@ -96,6 +97,7 @@ impl<'a> Body<'a> {
         if counted > self.levels {
             return Err(LevelsFault::Rule { place });
         }
+        // by level and not as a list, since the levels between the entries have no pixels
         let mut pixels = [0; 1024];
         let mut least = 0;
         let mut total = 0;

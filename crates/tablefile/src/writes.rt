@@ -15,6 +15,7 @@ use counting::Histogram;
 use refusals::Refusal;
 use tables::LevelTable;
 
+// The entries of the two sections come from different places and have other numbers, so each section has a writer of its own.
 impl Writer<'_> {
     // Section 0.
     fn put_head(&mut self, levels: u16)
@@ -41,6 +42,7 @@ impl Writer<'_> {
     {
         for (level, pixels) in histogram.pixels().iter().enumerate() {
             if *pixels > 0 {
+                // there are at most 1,024 levels
                 self.put_level(level as u16, *pixels);
             }
         }
@@ -60,7 +62,7 @@ impl Writer<'_> {
         requires { self.old.place + 4 * length (table_of table.now).bounds ≤ length self.old.out.now }
         ensures { Puts self.old (flat_map (bin_bytes (table_of table.now)) (range_with_len 0 (length (table_of table.now).bounds))) self.new }
     {
-        // a table lends no list of its bins, so they are asked for by number
+        // by number, since a table lends no list of its bins
         for bin in 0..table.bins() {
             self.put_bin(table.bound(bin), table.representative(bin));
         }

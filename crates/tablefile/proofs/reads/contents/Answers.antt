@@ -4,8 +4,8 @@ use Rattle.tables.specs.Table.{Table}
 use Rattle.tables.specs.Meaning.{table_of}
 use Rattle.tablefile.specs.Rows.{file_row}
 use Rattle.tablefile.specs.Bytes.{bytes_of}
-use Rattle.tablefile.specs.Fields.{levels_in, bins_place, bins_in, bin_place}
-use Rattle.tablefile.specs.Faults.{levels_fault, bins_fault, rest_fault, first_fault}
+use Rattle.tablefile.specs.Fields.{levels_in, bins_place}
+use Rattle.tablefile.specs.Faults.{levels_fault, bins_fault, first_fault}
 use Rattle.tablefile.specs.Parts.{ledger_in, table_in}
 use Rattle.tablefile.proofs.Faults.{judged_err, judged_same, head_stops, levels_stop, bins_stop, rest_left}
 use Rattle.tablefile.proofs.Faultless.{faultless, file_bytes}

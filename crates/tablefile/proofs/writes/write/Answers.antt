@@ -1,12 +1,12 @@
-use Rattle.std.proofs.Common.{◌≡◌, ◌≤◌, length, sym, refl, ◌∙◌, ap, arith, lit<}
+use Rattle.std.proofs.Common.{◌≤◌, length, sym, refl, ◌∙◌, ap, arith, lit<}
 use Rattle.std.proofs.lemmas.Grind.{common_steps}
 use Rattle.counting.specs.Meaning.{ledger_of}
 use Rattle.counting.specs.Outputs.{over}
 use Rattle.tables.specs.Meaning.{table_of}
-use Rattle.tablefile.specs.Bytes.{head_bytes, counted_of, bytes_of}
+use Rattle.tablefile.specs.Bytes.{head_bytes, bytes_of}
 use Rattle.tablefile.specs.Numbers.{word}
 use Rattle.counting.proofs.Ledgers.{sound_histogram}
-use Rattle.tablefile.proofs.Writing.{counted_number, entries_long, bytes_long, whole_put, put_over, put_same, word_bytes, write_enough, write_short}
+use Rattle.tablefile.proofs.Writing.{counted_number, entries_long, bytes_long, whole_put, put_over, put_same, put_word, write_enough, write_short}
 use Rattle.tablefile.proofs.writes.write.Goals as goal
 
 pub returns-then-out-needed : goal.returns-then-out-needed
@@ -59,8 +59,8 @@ returns c =
     let w4 = c.put-2.new.self in
     let w5 = c.put_bins.new.self in
     let head = put_same w0 w1 _ _ (ap head_bytes c.levels-levels.ensures) c.put_head.ensures in
-    let counted = put_same w1 w2 _ (word (length (counted_of g))) (c.to_be_bytes.ensures ∙ word_bytes _ c.counted_levels-counted.type_inv ∙ ap word (c.counted_levels-counted.ensures ∙ many)) c.put.ensures in
-    let bins = put_same w3 w4 _ (word (length t.bounds)) (c.to_be_bytes-2.ensures ∙ word_bytes _ c.bins-bins.type_inv ∙ ap word c.bins-bins.ensures) c.put-2.ensures in
+    let counted = put_same w1 w2 _ _ (ap word (c.counted_levels-counted.ensures ∙ many)) (put_word w1 w2 c.counted_levels-counted.result _ c.counted_levels-counted.type_inv c.to_be_bytes.ensures c.put.ensures) in
+    let bins = put_same w3 w4 _ _ (ap word c.bins-bins.ensures) (put_word w3 w4 c.bins-bins.result _ c.bins-bins.type_inv c.to_be_bytes-2.ensures c.put-2.ensures) in
     let put = whole_put g t w0 w1 w2 w3 w4 w5 (omega arith) head counted c.put_levels.ensures bins c.put_bins.ensures in
     let written = put_over w0 w5 (bytes_of g t) start.place put ∙ ap (over (bytes_of g t)) start.cells in
     let same = sym (put.0 ∙ start.same_reference) in

@@ -1,8 +1,8 @@
-use Rattle.std.proofs.Common.{◌≡◌, ℕ, List, take, sym, ap, ◌∙◌, subst, ap₂}
+use Rattle.std.proofs.Common.{ℕ, List, take, sym, ◌∙◌, subst, ap₂}
 use Rattle.counting.specs.Sound.{Sound, of_pixels}
 use Rattle.tablefile.specs.Fields.{counted_in}
 use Rattle.tablefile.proofs.Faults.{levels_none}
-use Rattle.tablefile.proofs.Entries.{made_lawful, made_ledger}
+use Rattle.tablefile.proofs.Entries.{made_lawful}
 use Rattle.tablefile.proofs.body.Body.histogram.Goals as goal
 
 pub unreachable-requires : goal.unreachable-requires
@@ -13,4 +13,3 @@ unreachable-requires c =
     let lawful = made_lawful file body.levels (counted_in file) (levels_none file body.levels read.0).2 body.range in
     let front = ap₂ (λ (k : ℕ) (ps : List ℕ). of_pixels (take k ps)) (c.from.ensures ∙ read.1.1.1) read.1.0 in
     c.in-None.ensures (subst Sound (sym front) lawful)
-

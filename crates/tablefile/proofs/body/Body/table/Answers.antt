@@ -1,4 +1,4 @@
-use Rattle.std.proofs.Common.{◌≡◌, ℕ, List, sym, ap, ◌∙◌, subst, ap₂}
+use Rattle.std.proofs.Common.{ℕ, List, sym, ap, ◌∙◌, subst, ap₂}
 use Rattle.tables.specs.Table.{Lawful, given}
 use Rattle.tablefile.proofs.Faults.{bins_none}
 use Rattle.tablefile.proofs.Bins.{table_lawful}
@@ -14,4 +14,3 @@ unreachable-requires c =
     let lists = ap₂ (λ (xs ys : List ℕ). given c.bins.new.self.levels xs ys) c.deref.ensures.0 c.deref-2.ensures.0 in
     let is = lists ∙ ap (λ (k : ℕ). given k made.bounds.items made.representatives.items) read.1.1.1 ∙ read.1.0 in
     c.in-None.ensures (subst Lawful (sym is) lawful)
-

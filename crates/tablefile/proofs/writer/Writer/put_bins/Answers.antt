@@ -1,9 +1,8 @@
 use Rattle.std.proofs.Common.{ℕ, ◌++◌, ap₂, arith}
 use Rattle.tables.specs.Meaning.{table_of}
 use Rattle.tablefile.specs.Numbers.{word}
-use Rattle.tablefile.proofs.Writing.{put_none, put_same, bin_room, bin_put}
+use Rattle.tablefile.proofs.Writing.{put_same, bin_room, bin_put}
 use Rattle.tablefile.proofs.writer.Writer.put_bins.Goals as goal
-
 
 pub put_bin-requires : goal.put_bin-requires
 put_bin-requires c = bin_room (table_of c.args.table.now) c.args.self.now c.requires c.loop-bin.self c.loop-bin.bin c.loop-bin.invariant (omega arith)

@@ -2,10 +2,9 @@ use Rattle.std.proofs.Common.{ℕ, ◌++◌, List, length, get_or, ◌∙◌, ap
 use Rattle.counting.specs.Meaning.{ledger_of}
 use Rattle.counting.proofs.Ledgers.{sound_histogram}
 use Rattle.tablefile.specs.Numbers.{word, long}
-use Rattle.tablefile.proofs.Writing.{put_none, put_same, level_room, level_put, level_skipped}
+use Rattle.tablefile.proofs.Writing.{put_same, level_room, level_put, level_skipped}
 use Rattle.tablefile.proofs.writer.Writer.put_levels.Goals as goal
 use Rattle.tablefile.proofs.writer.Writer.put_levels.Goals.{then-pixels-gt0, else-pixels-gt0}
-
 
 pub put_level-requires : goal.put_level-requires
 put_level-requires c =
