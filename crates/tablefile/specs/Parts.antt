@@ -53,14 +53,14 @@ abbrev pub table_in : List ℕ → ℕ → ℕ → Table
 table_in file levels place =
     given levels (map (bound_in file place) (range_with_len 0 (bins_in file place))) (map (representative_in file place) (range_with_len 0 (bins_in file place)))
 
--- What each part of a file gives, besides that it has no fault; the file reaches to the end of the part.
+-- What each part of a file gives, besides that it has no fault. The file reaches to the end of the part, since a body stands within its file.
 abbrev pub GotBody : List ℕ → Body → Type 0
 GotBody file body = (body.file.now ≡ file) × (body.levels ≡ levels_in file) × (body.place ≡ 3)
 
 -- an entry of section 1, where the entries before it have `before` pixels
 abbrev pub GotLevel : Body → ℕ → Body → LevelEntry → Type 0
 GotLevel body before then entry =
-    (entry.level ≡ word_at body.file.now body.place) × (entry.pixels ≡ long_at body.file.now (body.place + 2)) × (body.place + 6 ≤ length body.file.now)
+    (entry.level ≡ word_at body.file.now body.place) × (entry.pixels ≡ long_at body.file.now (body.place + 2))
     × (entry.level < body.levels) × (before + entry.pixels ≤ 4294967295) × ReadOn body (body.place + 6) then
 
 -- the entries of section 1
@@ -74,7 +74,7 @@ GotHistogram body then histogram = (ledger_of histogram ≡ ledger_in body.file.
 -- an entry of section 2
 abbrev pub GotBin : Body → Body → BinEntry → Type 0
 GotBin body then entry =
-    (entry.bound ≡ word_at body.file.now body.place) × (entry.representative ≡ word_at body.file.now (body.place + 2)) × (body.place + 4 ≤ length body.file.now)
+    (entry.bound ≡ word_at body.file.now body.place) × (entry.representative ≡ word_at body.file.now (body.place + 2))
     × (entry.bound < body.levels) × ReadOn body (body.place + 4) then
 
 -- the entries of section 2

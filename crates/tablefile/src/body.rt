@@ -19,23 +19,23 @@ pub(crate) struct Body<'a> {
 
 // An entry of section 1.
 #[derive(Clone, Copy)]
-pub struct LevelEntry {
-    pub level: u16,
-    pub pixels: u32,
+struct LevelEntry {
+    level: u16,
+    pixels: u32,
 }
 
 // An entry of section 2.
 #[derive(Clone, Copy)]
-pub struct BinEntry {
-    pub bound: u16,
-    pub representative: u16,
+struct BinEntry {
+    bound: u16,
+    representative: u16,
 }
 
 // The bounds and the representatives of the bins, lowest first: two lists, since a table is made from two.
 #[derive(Drop)]
-pub struct Bins {
-    pub bounds: ArrayVec<u16, 256>,
-    pub representatives: ArrayVec<u16, 256>,
+struct Bins {
+    bounds: ArrayVec<u16, 256>,
+    representatives: ArrayVec<u16, 256>,
 }
 
 impl<'a> Body<'a> {

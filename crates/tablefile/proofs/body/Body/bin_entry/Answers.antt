@@ -47,4 +47,4 @@ returns c =
     let grey = c.from_be_bytes-representative.ensures ∙ word_taken file (place + 2) _ _ _ first.1.0 first.1.2 second.0.0 in
     let same = ap length first.1.0 in
     let rule : bin_rule body.levels c.args.least c.args.last (word_at file place) (word_at file (place + 2)) ≡ true = grind (arith, nat_tests) in
-    (part_fine file 2 place 4 _ (omega arith) rule, (bound, grey, omega arith, grind (arith, nat_tests), (second.1.0 ∙ first.1.0, second.1.1 ∙ first.1.1, omega arith)))
+    (part_fine file 2 place 4 _ (omega arith) rule, (bound, grey, grind (arith, nat_tests), (second.1.0 ∙ first.1.0, second.1.1 ∙ first.1.1, omega arith)))

@@ -66,7 +66,7 @@ loop-i-preserved c =
     let read = c.in_ok-entry.ensures in
     let next = bin_next file levels place _ _ c.loop-i.least c.loop-i.i c.loop-i.self u _ count in
     let more = bins_more file levels place _ _ c.loop-i.least c.loop-i.i c.loop-i.self u _ c.in_ok-entry.entry.bound c.in_ok-entry.entry.representative
-    (sym next ∙ read.0) read.1.0 read.1.1 read.1.4 in
+    (sym next ∙ read.0) read.1.0 read.1.1 read.1.3 in
     let upto : List ℕ → List ℕ → Type 0 = λ xs ys. BinsUpto file levels place xs ys (c.in_ok-entry.entry.bound + 1) (c.loop-i.i + 1) c.bin_entry.new.self in
     rw (c.push.ensures.items, c.push-in-loop-i.ensures.items) more
 

@@ -47,4 +47,4 @@ returns c =
     let pixels = c.from_be_bytes-pixels.ensures ∙ long_taken file (place + 2) _ _ _ first.1.0 first.1.2 second.0.0 in
     let same = ap length first.1.0 in
     let rule : level_rule body.levels c.args.least c.args.before (word_at file place) (long_at file (place + 2)) ≡ true = grind (arith, nat_tests) in
-    (part_fine file 1 place 6 _ (omega arith) rule, (level, pixels, omega arith, grind (arith, nat_tests), omega arith, (second.1.0 ∙ first.1.0, second.1.1 ∙ first.1.1, omega arith)))
+    (part_fine file 1 place 6 _ (omega arith) rule, (level, pixels, grind (arith, nat_tests), omega arith, (second.1.0 ∙ first.1.0, second.1.1 ∙ first.1.1, omega arith)))

@@ -44,7 +44,7 @@ loop-preserved c =
     let body = c.args.self.now in
     let read = c.in_ok-entry.ensures in
     let next = level_next body.file.now body.levels _ _ _ _ c.loop.self c.loop.invariant in
-    rw c.from.ensures (levels_more body.file.now body.levels _ _ _ _ c.loop.self c.loop.invariant c.level_entry.new.self _ _ (sym next ∙ read.0) read.1.0 read.1.1 read.1.5)
+    rw c.from.ensures (levels_more body.file.now body.levels _ _ _ _ c.loop.self c.loop.invariant c.level_entry.new.self _ _ (sym next ∙ read.0) read.1.0 read.1.1 read.1.4)
 
 pub returns : goal.returns
 returns c =
