@@ -27,14 +27,14 @@ kept_map p f (x ∷ xs) =
     ]
 
 -- the counted levels below l, and their number
-abbrev front : Ledger → ℕ → List ℕ
+abbrev pub front : Ledger → ℕ → List ℕ
 front g l = filter (λ k. ltb 0 (pixels_at g k)) (range_with_len 0 l)
 
 unfoldable pub rank : Ledger → ℕ → ℕ
 rank g l = length (front g l)
 
 module _ (g : Ledger) where
-  front_more : (l : ℕ) → front g (suc l) ≡ front g l ++ cond (ltb 0 (pixels_at g l)) (l ∷ []) []
+  pub front_more : (l : ℕ) → front g (suc l) ≡ front g l ++ cond (ltb 0 (pixels_at g l)) (l ∷ []) []
   front_more l =
       let e : suc l ≡ l + 1 = omega arith in
       let z : 0 + l ≡ l = omega arith in

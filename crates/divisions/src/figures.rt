@@ -6,7 +6,7 @@ ghost use Rattle.divisions.specs.Figures.{candidates, path_steps, priced_figure,
 pub fn bins(counted: u16, most: u16) -> u16
     ensures { result ≡ min most counted }
 {
-    if most < counted { most } else { counted }
+    most.min(counted)
 }
 
 // How many runs of the counted levels are candidates for one of these bins.
@@ -29,6 +29,6 @@ pub fn compared(counted: u16, most: u16) -> u64
     if b < 2 {
         return b;
     }
-    let h = c - b + 1;
-    (b - 2) * h * (h + 1) / 2 + 2 * h
+    let longest = c - b + 1;
+    (b - 2) * longest * (longest + 1) / 2 + 2 * longest
 }
