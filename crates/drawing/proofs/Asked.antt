@@ -1,58 +1,55 @@
--- What a pricer answers for a run of the counted levels that a list has: never nothing, and nothing but the run's representative and price.
-use Rattle.std.proofs.Common.{◌≡◌, ℕ, suc, ◌+◌, ◌-◌, ◌<◌, ◌≤◌, List, length, get_or, set, sym, ap, ◌∙◌, subst₂, inl, inr, add-one, arith, length-set}
-use Rattle.std.proofs.lemmas.Bool.{lt-ltb, le-ltb, cases_eq}
-use Rattle.std.proofs.lemmas.List.{get_or-set_same, get_or-set_other}
+-- The counted levels as they are listed, and what a pricer answers for a run of them: never nothing, and nothing but the run's
+-- representative and price.
+use Rattle.std.proofs.Common.{◌≡◌, ℕ, suc, ◌+◌, ◌-◌, ◌<◌, ◌≤◌, ltb, List, [], ◌∷◌, ◌++◌, length, get_or, Some, None, Option, IsSome, refl, ap, ◌∙◌, subst, subst₂, arith}
+use Rattle.std.proofs.lemmas.List.{append-nil}
+use Rattle.std.proofs.lemmas.Bool.{cond-true, cond-false, lt-ltb, le-ltb}
+use Rattle.std.specs.List.{range_with_len}
+use Rattle.std.proofs.lemmas.List.Sums.{length-filter, count_by-le-length}
+use Rattle.std.proofs.lemmas.List.FromFn.{length-range_with_len}
 use Rattle.counting.specs.Ledger.{Ledger, counted_levels, pixels_at}
-use Rattle.pricing.specs.Tallies.{Ops, Laws}
-use Rattle.pricing.specs.Prices.{Priceless, PricedAt}
 use Rattle.counting.specs.Sound.{Sound}
-use Rattle.divisions.specs.Divisions.{level_at, representative, price}
-use Rattle.drawing.specs.Cells.{Lists}
-use Rattle.divisions.proofs.Places.{rank, rank_yes, rank_no, level_at_rank}
+use Rattle.pricing.specs.Tallies.{Ops, Laws}
+use Rattle.pricing.specs.Prices.{Priceless, PricedAt, Priced}
+use Rattle.divisions.specs.Divisions.{levels_of, level_at, representative, price}
+use Rattle.divisions.proofs.Places.{rank, front, front_more, rank_all}
 use Rattle.divisions.proofs.Prices.{never_priceless, priced_is}
 
-module _ {C : Type 0} (o : Ops C) (L : Laws o) (error : ℕ → ℕ → ℕ) (g : Ledger) (S : Sound g) (places : List ℕ) (lists : Lists g places)
-    (start end : ℕ) (order : start ≤ end) (inside : end < counted_levels g) where
-  lowest : get_or places start 0 ≡ level_at g start
-  lowest = lists.1 start (omega arith)
+module _ (g : Ledger) where
+  -- no more levels are listed than have been looked at
+  pub front_few : (level : ℕ) → length (front g level) ≤ level
+  front_few level = let e = length-filter (λ k. ltb 0 (pixels_at g k)) (range_with_len 0 level) in
+      omega (arith, count_by-le-length (λ k. ltb 0 (pixels_at g k)) (range_with_len 0 level), length-range_with_len 0 level)
 
-  highest : get_or places end 0 ≡ level_at g (start + (end + 1 - start) - 1)
-  highest = lists.1 end inside ∙ ap (level_at g) (omega arith)
+  -- one level more has been looked at
+  pub front_one : (level : ℕ) → 0 < pixels_at g level → front g (level + 1) ≡ front g level ++ level ∷ []
+  front_one level some =
+      let e : level + 1 ≡ suc level = omega arith in
+      ap (front g) e ∙ front_more g level ∙ ap (λ (xs : List ℕ). front g level ++ xs) (cond-true _ (level ∷ []) [] (lt-ltb 0 (pixels_at g level) some))
 
-  pub never_absent : Priceless g (get_or places start 0) (get_or places end 0) → ⊥
-  never_absent none = never_priceless o error g S start (end + 1 - start) (omega arith) (omega arith) (subst₂ (λ (a b : ℕ). Priceless g a b) lowest highest none)
+  pub front_none : (level : ℕ) → pixels_at g level ≤ 0 → front g (level + 1) ≡ front g level
+  front_none level none =
+      let e : level + 1 ≡ suc level = omega arith in
+      ap (front g) e ∙ front_more g level ∙ ap (λ (xs : List ℕ). front g level ++ xs) (cond-false _ (level ∷ []) [] (le-ltb 0 (pixels_at g level) none)) ∙ append-nil (front g level)
 
-  pub answer_is : (r : ℕ) (t : C) → PricedAt o error g (get_or places start 0) (get_or places end 0) r t →
-      (r ≡ representative o error g start (end + 1 - start)) × (t ≡ price o error g start (end + 1 - start))
-  answer_is r t p = priced_is o L error g S start (end + 1 - start) r t (omega arith) (omega arith) (subst₂ (λ (a b : ℕ). PricedAt o error g a b r t) lowest highest p)
+  pub number_listed : Sound g → (levels : List ℕ) → levels ≡ levels_of g → length levels ≡ counted_levels g
+  unfolding rank
+  number_listed S levels listed = ap length listed ∙ rank_all g S
 
--- how far the counted levels are listed: those below `level`, of which there are `counted`
-abbrev pub Listing : Ledger → List ℕ → ℕ → ℕ → Type 0
-Listing g places counted level =
-    (counted ≡ rank g level) × (counted ≤ level) × (length places ≡ 1024) × ((i : ℕ) → i < counted → get_or places i 0 ≡ level_at g i)
+  pub level_listed : (levels : List ℕ) → levels ≡ levels_of g → (place : ℕ) → get_or levels place 0 ≡ level_at g place
+  unfolding level_at
+  level_listed levels listed place = ap (λ (xs : List ℕ). get_or xs place 0) listed
 
-module _ (g : Ledger) (places then : List ℕ) (counted next level : ℕ) (l : Listing g places counted level) where
-  -- a level with pixels
-  pub listing_one : level < g.levels → level < 1024 → 0 < pixels_at g level → then ≡ set places counted level → next ≡ counted + 1 → Listing g then next (level + 1)
-  listing_one inside low some e f =
-      let yes = lt-ltb 0 (pixels_at g level) some in
-      let up = rank_yes g level yes in
-      let rank_is : rank g (level + 1) ≡ suc (rank g level) = rw add-one up in
-      let here = level_at_rank g level inside yes in
-      let room : counted < length places = omega (arith, l.1, l.2) in
-      rw (e, f) (
-        omega (arith, l.0),
-        omega (arith, l.1),
-        length-set places counted level ∙ l.2,
-        λ i h. elim (cases_eq i counted) [
-          | inl same ↦ rw same (get_or-set_same places counted level 0 room ∙ sym here ∙ ap (level_at g) (sym l.0))
-          | inr ne ↦ get_or-set_other places counted i level 0 ne ∙ l.3 i (omega arith)
-        ],
-      )
+module _ {C : Type 0} (o : Ops C) (L : Laws o) (error : ℕ → ℕ → ℕ) (g : Ledger) (S : Sound g) (start end : ℕ) (order : start ≤ end) (inside : end < counted_levels g)
+    (low high : ℕ) (low_is : low ≡ level_at g start) (high_is : high ≡ level_at g end) where
+  last : high ≡ level_at g (start + (end + 1 - start) - 1)
+  last = high_is ∙ ap (level_at g) (omega arith)
 
-  -- a level without
-  pub listing_none : pixels_at g level ≤ 0 → then ≡ places → next ≡ counted → Listing g then next (level + 1)
-  listing_none none e f =
-      let up = rank_no g level (le-ltb 0 (pixels_at g level) none) in
-      let rank_is : rank g (level + 1) ≡ rank g level = rw add-one up in
-      rw (e, f) (omega (arith, l.0), omega (arith, l.1), l.2, l.3)
+  pub always_priced : (answer : Option (ℕ × C)) → Priced o error g low high answer → IsSome answer
+  always_priced None none = absurd (never_priceless o error g S start (end + 1 - start) (omega arith) (omega arith) (subst₂ (λ (a b : ℕ). Priceless g a b) low_is last none))
+  always_priced (Some answer) priced = refl
+
+  pub answer_is : (answer : Option (ℕ × C)) → Priced o error g low high answer → (given : ℕ × C) → answer ≡ Some given →
+      (given.0 ≡ representative o error g start (end + 1 - start)) × (given.1 ≡ price o error g start (end + 1 - start))
+  answer_is answer priced given e =
+      let here : PricedAt o error g low high given.0 given.1 = subst (Priced o error g low high) e priced in
+      priced_is o L error g S start (end + 1 - start) given.0 given.1 (omega arith) (omega arith) (subst₂ (λ (a b : ℕ). PricedAt o error g a b given.0 given.1) low_is last here)

@@ -1,4 +1,4 @@
-pub mod Cells
+pub mod Turns
 pub mod Placed
 pub mod Asked
 pub mod Tracing

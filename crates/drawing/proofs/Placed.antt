@@ -14,6 +14,14 @@ use Rattle.divisions.proofs.Divisions.{least_one, least_more, best_division_more
 pub row_below : (k n b m : ℕ) → k < n → m < b → k * b + m < n * b
 row_below k n b m lt inside = omega (arith, mul-add-lt k b m n lt inside)
 
+-- the cells of a run and those before it lie within the lists
+pub row_inside : (c b start end from to tallies links : ℕ) → start ≤ end → end < c → 0 < start → 1 ≤ from → from ≤ to → to ≤ b → c * b ≤ tallies → c * b ≤ links →
+    (end * b + from + (to - from) ≤ tallies) × (end * b + from + (to - from) ≤ links) × ((start - 1) * b + (from - 1) + (to - from) ≤ end * b + from)
+row_inside c b start end from to tallies links order inside pos up few most t l =
+    let row = row_below end c b (to - 1) inside (omega arith) in
+    let before = row_below (start - 1) end b (to - 1) (omega arith) (omega arith) in
+    (omega arith, omega arith, omega arith)
+
 module _ {C : Type 0} (o : Ops C) (L : Laws o) (cost : ℕ → ℕ → C) (c b n start : ℕ) (begun : start < n) (all : n ≤ c) (some : 0 < b) (few : b ≤ c) where
   one_run : (price : C) → start ≡ 0 → price ≡ cost start (n - start) → Cell o cost 0 n price 0
   unfolding best_division

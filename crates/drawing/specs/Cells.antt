@@ -1,14 +1,9 @@
 -- How the best division is found, for the private functions that fill cells: the public promises do not rest on this file.
 -- A cell holds a tally, and beside it, in a list of links, the place at which the last run starts.
 use Rattle.std.specs.Prelude.{◌≡◌, ℕ, ◌+◌, ◌-◌, ◌*◌, ◌<◌, ◌≤◌, max, Bool, cond, ◌⊎◌, List, ◌∷◌, length, slice_index, slice_index_or}
-use Rattle.counting.specs.Ledger.{Ledger, counted_levels}
 use Rattle.pricing.specs.Tallies.{Ops}
-use Rattle.divisions.specs.Divisions.{highest_least, level_at}
+use Rattle.divisions.specs.Divisions.{highest_least}
 use Rattle.divisions.specs.Recurrence.{best_division, least_tally}
-
--- a list that begins with the counted levels, in rising order
-abbrev pub Lists : Ledger → List ℕ → Type 0
-Lists g places = (counted_levels g ≤ length places) × ((i : ℕ) → i < counted_levels g → slice_index places i ≡ level_at g i)
 
 -- The cell of m bins before the last and of n levels is needed for a division of c levels into b runs: the levels can hold the runs,
 -- those left over can hold the other runs, and it is the last bin only with all the levels.
@@ -41,6 +36,10 @@ pub record Searched {C : Type 0} (o : Ops C) (cost : ℕ → ℕ → C) (c b n f
   pub filled : (m k : ℕ) → k < n → Needed c b m k → Cell o cost m k (slice_index_or ts ((k - 1) * b + m) o.neutral) (slice_index ls ((k - 1) * b + m))
   pub first : from ≡ 0 → Needed c b 0 n → Cell o cost 0 n (slice_index_or ts ((n - 1) * b) o.neutral) (slice_index ls ((n - 1) * b))
   pub tried : (m : ℕ) → 0 < m → Needed c b m n → from < n → Tried o cost m n (max from m) (slice_index_or ts ((n - 1) * b + m) o.neutral) (slice_index ls ((n - 1) * b + m))
+
+-- what a test answers is what a function gives
+abbrev pub Answers : {C : Type 0} → (C → C → Bool → Type 0) → (C → C → Bool) → Type 0
+Answers {C = C} post keep = (had given : C) (kept : Bool) → post had given kept → kept ≡ keep had given
 
 -- A run of this price, which starts at `start`, is put after what the cells from `before` hold, and goes into the cells from `row`:
 -- `keep old new` says whether a cell keeps what it has. All other cells stay.

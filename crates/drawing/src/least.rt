@@ -1,137 +1,109 @@
 // The least tallies of the first counted levels in each number of runs, cell by cell.
-ghost use Rattle.std.specs.Prelude.{◌≡◌, ℕ, ◌+◌, ◌-◌, ◌*◌, ◌<◌, ◌≤◌, max, false, length};
-ghost use Rattle.counting.specs.Ledger.{counted_levels};
-ghost use Rattle.counting.specs.Meaning.{ledger_of};
+ghost use Rattle.std.specs.Prelude.{◌≡◌, ℕ, Bool, ◌+◌, ◌-◌, ◌*◌, ◌<◌, ◌≤◌, max, length};
 ghost use Rattle.pricing.specs.Errors.{SameErrors};
 ghost use Rattle.divisions.specs.Divisions.{price};
-ghost use Rattle.drawing.specs.Cells.{Turned, Needed, Searched, Lists};
+ghost use Rattle.drawing.specs.Cells.{Answers, Turned, Needed};
+ghost use Rattle.drawing.specs.Filling.{ledger, counted, HasRoom, SearchedTo, Filled};
 
-use crate::runs::price_run;
-use counting::Histogram;
+use crate::cells::Cells;
+use crate::search::{Run, Search};
 use pricing::{Pricer, Tally};
+use std::ops::Range;
 
-// A run at the end of other runs, whatever the cells held: writes its price joined with what stands before it.
-fn enter<T: Tally>(
-    tallies: &mut [T],
-    links: &mut [u16],
-    row: usize,
-    before: usize,
-    count: usize,
-    amount: T,
-    start: u16,
-)
-    requires { (row + count ≤ length tallies.old) × (row + count ≤ length links.old) × (before + count ≤ row) }
-    ensures { Turned T.Tally.ops (λ _ _. false) amount start row before count tallies.old tallies.new links.old links.new }
-{
-    for k in 0..count {
-        tallies[row + k] = amount.join(tallies[before + k]);
-        links[row + k] = start;
+impl Search<'_> {
+    // The bin numbers above 0 that a run can have.
+    fn bin_numbers(&self, run: Run) -> Range<usize>
+        requires { run.end < counted self.now }
+        ensures bounds { (1 ≤ result.start) × (result.start ≤ result.end) × (result.end ≤ self.now.bins) × (result.end ≤ max result.start (run.start + 1)) }
+        ensures needed { (m : ℕ) → 0 < m → Needed (counted self.now) self.now.bins m (run.end + 1) → (result.start ≤ m) × (m ≤ run.start → m < result.end) }
+    {
+        let spare = self.counted() - self.bins;
+        let first = run.end.saturating_sub(spare).max(1);
+        let limit = if run.end + 1 == self.counted() {
+            self.bins
+        } else {
+            self.bins - 1
+        };
+        first..limit.min(run.start + 1).max(first)
     }
-}
 
-// The same where the cells hold what later starts gave: only what is lower replaces it.
-fn relax<T: Tally>(
-    tallies: &mut [T],
-    links: &mut [u16],
-    row: usize,
-    before: usize,
-    count: usize,
-    amount: T,
-    start: u16,
-)
-    requires { (row + count ≤ length tallies.old) × (row + count ≤ length links.old) × (before + count ≤ row) }
-    ensures { Turned T.Tally.ops T.Tally.ops.not_above amount start row before count tallies.old tallies.new links.old links.new }
-{
-    for k in 0..count {
-        let joined = amount.join(tallies[before + k]);
-        if !tallies[row + k].not_above(joined) {
-            tallies[row + k] = joined;
-            links[row + k] = start;
+    // Puts a run after what the cells hold that end where it starts, at these bin numbers: into the cells of its own end, but for
+    // those that keep the tally they have against the one that it gives.
+    fn put_after<T: Tally, F: Fn(T, T) -> bool>(
+        &self,
+        cells: &mut Cells<'_, T>,
+        run: Run,
+        numbers: Range<usize>,
+        price: T,
+        keeps: F,
+    )
+        requires run { (0 < run.start) × (run.end < counted self.now) }
+        requires numbers { (1 ≤ numbers.start) × (numbers.start ≤ numbers.end) × (numbers.end ≤ self.now.bins) }
+        requires room { HasRoom self.now cells.old }
+        requires callable { F.IsAlwaysCallable keeps }
+        ensures { (keep : T → T → Bool) → Answers (F.post keeps) keep → Turned T.Tally.ops keep price run.start (run.end * self.now.bins + numbers.start) ((run.start - 1) * self.now.bins + (numbers.start - 1)) (numbers.end - numbers.start) cells.old.tallies.now cells.new.tallies.now cells.old.links.now cells.new.links.now }
+    {
+        let tallies = &mut *cells.tallies;
+        let links = &mut *cells.links;
+        let row = run.end * self.bins + numbers.start;
+        let before = (run.start - 1) * self.bins + (numbers.start - 1);
+        // by index: after a loop over the elements of a lent slice, a proof knows none of them
+        for k in 0..numbers.end - numbers.start {
+            let joined = price.join(tallies[before + k]);
+            if !keeps(tallies[row + k], joined) {
+                tallies[row + k] = joined;
+                links[row + k] = run.start as u16;
+            }
         }
     }
-}
 
-// The bin numbers above 0, from the first to one past the last, that the run from place `start` to place `end` can have.
-fn bin_numbers(counted: usize, bins: usize, start: usize, end: usize) -> (usize, usize)
-    requires { (0 < bins) × (bins ≤ counted) × (counted ≤ 1024) × (start ≤ end) × (end < counted) }
-    ensures bounds { (1 ≤ result.0) × (result.0 ≤ result.1) × (result.1 ≤ bins) × (result.1 ≤ max result.0 (start + 1)) }
-    ensures needed { (m : ℕ) → 0 < m → Needed counted bins m (end + 1) → (result.0 ≤ m) × (m ≤ start → m < result.1) }
-{
-    let from = end.saturating_sub(counted - bins).max(1);
-    let limit = if end + 1 == counted { bins } else { bins - 1 };
-    (from, limit.min(start + 1).max(from))
-}
-
-// Puts the run from place `start` to place `end` into the cells of its end, at each bin number that it can have.
-fn place_run<T: Tally>(
-    tallies: &mut [T],
-    links: &mut [u16],
-    counted: usize,
-    bins: usize,
-    start: usize,
-    end: usize,
-    amount: T,
-)
-    requires { (0 < bins) × (bins ≤ counted) × (counted ≤ 1024) × (start ≤ end) × (end < counted) × (counted * bins ≤ length tallies.old) × (counted * bins ≤ length links.old) }
-    ensures { (cost : ℕ → ℕ → T) → amount ≡ cost start (end + 1 - start) → Searched T.Tally.ops cost counted bins (end + 1) (start + 1) tallies.old links.old → Searched T.Tally.ops cost counted bins (end + 1) start tallies.new links.new }
-{
-    if start == 0 {
-        tallies[end * bins] = amount;
-        links[end * bins] = 0;
-        return;
+    // Puts a run into the cells of its end, at each bin number that it can have.
+    fn put<T: Tally>(&self, cells: &mut Cells<'_, T>, run: Run, price: T)
+        requires run { run.end < counted self.now }
+        requires room { HasRoom self.now cells.old }
+        ensures room { HasRoom self.now cells.new }
+        ensures placed { (cost : ℕ → ℕ → T) → price ≡ cost run.start (run.end + 1 - run.start) → SearchedTo T.Tally.ops cost self.now (run.end + 1) (run.start + 1) cells.old → SearchedTo T.Tally.ops cost self.now (run.end + 1) run.start cells.new }
+    {
+        if run.start == 0 {
+            cells.tallies[run.end * self.bins] = price;
+            cells.links[run.end * self.bins] = 0;
+            return;
+        }
+        let numbers = self.bin_numbers(run);
+        if run.start == run.end {
+            // the first run that ends here: whatever the cells held
+            self.put_after(cells, run, numbers, price, |_, _| false);
+        } else {
+            // the cells hold what later starts gave: only what is lower replaces it
+            self.put_after(cells, run, numbers, price, |had, given| {
+                had.not_above(given)
+            });
+        }
     }
-    let (from, to) = bin_numbers(counted, bins, start, end);
-    let row = end * bins + from;
-    let before = (start - 1) * bins + (from - 1);
-    if start == end {
-        enter(tallies, links, row, before, to - from, amount, start as u16);
-    } else {
-        relax(tallies, links, row, before, to - from, amount, start as u16);
-    }
-}
 
-// Fills the cells of one end: each run that ends there is priced once, the shortest first.
-fn fill_end<P: Pricer>(
-    pricer: &mut P,
-    histogram: &Histogram,
-    places: &[u16; 1024],
-    counted: usize,
-    bins: usize,
-    end: usize,
-    tallies: &mut [P::Kind],
-    links: &mut [u16],
-)
-    requires shape { (0 < bins) × (bins ≤ counted) × (end < counted) × (counted ≡ counted_levels (ledger_of histogram.now)) }
-    requires lists { Lists (ledger_of histogram.now) places.now }
-    requires room { (counted * bins ≤ length tallies.old) × (counted * bins ≤ length links.old) }
-    ensures after { (error : ℕ → ℕ → ℕ) → SameErrors (P.Measure.error pricer.old) error → Searched P.Kind.Tally.ops (price P.Kind.Tally.ops error (ledger_of histogram.now)) counted bins (end + 1) (end + 1) tallies.old links.old → Searched P.Kind.Tally.ops (price P.Kind.Tally.ops error (ledger_of histogram.now)) counted bins (end + 2) (end + 2) tallies.new links.new }
-    ensures same { SameErrors (P.Measure.error pricer.new) (P.Measure.error pricer.old) }
-{
-    for start in (end.saturating_sub(counted - bins)..end + 1).rev() {
-        let (_, price) = price_run(pricer, histogram, places, start, end);
-        place_run(tallies, links, counted, bins, start, end, price);
+    // Fills the cells of one end: each run that ends there is priced once, the shortest first.
+    fn fill_end<P: Pricer>(&self, pricer: &mut P, cells: &mut Cells<'_, P::Kind>, end: usize)
+        requires end { end < counted self.now }
+        requires room { HasRoom self.now cells.old }
+        ensures after { (error : ℕ → ℕ → ℕ) → SameErrors (P.Measure.error pricer.old) error → SearchedTo P.Kind.Tally.ops (price P.Kind.Tally.ops error (ledger self.now)) self.now (end + 1) (end + 1) cells.old → SearchedTo P.Kind.Tally.ops (price P.Kind.Tally.ops error (ledger self.now)) self.now (end + 2) (end + 2) cells.new }
+        ensures same { SameErrors (P.Measure.error pricer.new) (P.Measure.error pricer.old) }
+    {
+        let spare = self.counted() - self.bins;
+        for start in (end.saturating_sub(spare)..=end).rev() {
+            let run = Run { start, end };
+            let (_, price) = self.price(pricer, run);
+            self.put(cells, run, price);
+        }
     }
-}
 
-// Fills the cells of every end.
-pub(crate) fn fill<P: Pricer>(
-    pricer: &mut P,
-    histogram: &Histogram,
-    places: &[u16; 1024],
-    counted: usize,
-    bins: usize,
-    tallies: &mut [P::Kind],
-    links: &mut [u16],
-)
-    requires shape { (0 < bins) × (bins ≤ counted) × (counted ≡ counted_levels (ledger_of histogram.now)) }
-    requires lists { Lists (ledger_of histogram.now) places.now }
-    requires room { (counted * bins ≤ length tallies.old) × (counted * bins ≤ length links.old) }
-    ensures after { Searched P.Kind.Tally.ops (price P.Kind.Tally.ops (P.Measure.error pricer.old) (ledger_of histogram.now)) counted bins (counted + 1) (counted + 1) tallies.new links.new }
-    ensures same { SameErrors (P.Measure.error pricer.new) (P.Measure.error pricer.old) }
-{
-    for end in 0..counted {
-        fill_end(
-            pricer, histogram, places, counted, bins, end, tallies, links,
-        );
+    // Fills the cells of every end.
+    pub(crate) fn fill<P: Pricer>(&self, pricer: &mut P, cells: &mut Cells<'_, P::Kind>)
+        requires { HasRoom self.now cells.old }
+        ensures filled { Filled P.Kind.Tally.ops (P.Measure.error pricer.old) self.now cells.new }
+        ensures same { SameErrors (P.Measure.error pricer.new) (P.Measure.error pricer.old) }
+    {
+        for end in 0..self.counted() {
+            self.fill_end(pricer, cells, end);
+        }
     }
 }

@@ -3,11 +3,12 @@
 
 ghost use Rattle.drawing.specs.Drawings.{DrawnTotalsArePlain};
 
+mod cells;
 mod drawings;
 mod law;
 mod least;
 mod receipt;
-mod runs;
+mod search;
 mod trace;
 
 pub use divisions::{

@@ -1,45 +1,92 @@
-// The counted levels of a histogram, and the price of a run of them.
-ghost use Rattle.std.specs.Prelude.{◌≡◌, ℕ, ◌+◌, ◌-◌, ◌<◌, ◌≤◌, length};
+// A search for the best division of the counted levels of a histogram, and the price of a run of them.
+ghost use Rattle.std.specs.Prelude.{◌≡◌, ◌+◌, ◌-◌, ◌<◌, ◌≤◌};
 ghost use Rattle.counting.specs.Ledger.{counted_levels};
 ghost use Rattle.counting.specs.Meaning.{ledger_of};
 ghost use Rattle.pricing.specs.Errors.{SameErrors};
-ghost use Rattle.divisions.specs.Divisions.{level_at, representative, price};
-ghost use Rattle.drawing.specs.Cells.{Lists};
+ghost use Rattle.divisions.specs.Divisions.{levels_of, level_at, representative, price};
 
+use arrayvec::ArrayVec;
 use counting::Histogram;
 use pricing::Pricer;
 
-// Lists the counted levels in rising order at the front of `places`; gives how many there are.
-pub(crate) fn list_levels(histogram: &Histogram, places: &mut [u16; 1024]) -> usize
-    ensures number { result ≡ counted_levels (ledger_of histogram.now) }
-    ensures lists { Lists (ledger_of histogram.now) places.new }
-{
-    let mut counted = 0;
-    for level in 0..histogram.levels() {
-        if histogram.pixels_at(level) > 0 {
-            places[counted] = level;
-            counted += 1;
-        }
-    }
-    counted
+// A run, by the places of its lowest and its highest counted level.
+#[derive(Clone, Copy)]
+pub(crate) struct Run {
+    pub(crate) start: usize,
+    pub(crate) end: usize,
+    ghost order: { start ≤ end },
 }
 
-// The representative and the price of the run of counted levels from place `start` to place `end`.
-pub(crate) fn price_run<P: Pricer>(
-    pricer: &mut P,
-    histogram: &Histogram,
-    places: &[u16; 1024],
-    start: usize,
-    end: usize,
-) -> (u16, P::Kind)
-    requires { (start ≤ end) × (end < counted_levels (ledger_of histogram.now)) × Lists (ledger_of histogram.now) places.now }
-    ensures representative { result.0 ≡ representative P.Kind.Tally.ops (P.Measure.error pricer.old) (ledger_of histogram.now) start (end + 1 - start) }
-    ensures price { result.1 ≡ price P.Kind.Tally.ops (P.Measure.error pricer.old) (ledger_of histogram.now) start (end + 1 - start) }
-    ensures same { SameErrors (P.Measure.error pricer.new) (P.Measure.error pricer.old) }
+// The counted levels, in rising order, and the number of runs that they are cut into.
+#[derive(Drop)]
+pub(crate) struct Search<'a> {
+    pub(crate) histogram: &'a Histogram,
+    levels: ArrayVec<u16, 1024>,
+    pub(crate) bins: usize,
+    ghost listed: { levels.items ≡ levels_of (ledger_of histogram.now) },
+    ghost some: { 1 ≤ bins },
+    ghost few: { bins ≤ counted_levels (ledger_of histogram.now) },
+    ghost small: { bins ≤ 256 },
+}
+
+// The counted levels of a histogram, in rising order.
+fn listed(histogram: &Histogram) -> ArrayVec<u16, 1024>
+    ensures { result.items ≡ levels_of (ledger_of histogram.now) }
 {
-    match pricer.price(histogram, places[start], places[end]) {
-        Some(answer) => answer,
+    let mut levels = ArrayVec::new();
+    for (level, pixels) in histogram.pixels().iter().enumerate() {
+        if *pixels > 0 {
+            levels.push(level as u16);
+        }
+    }
+    levels
+}
+
+impl<'a> Search<'a> {
+    ghost use Rattle.drawing.specs.Filling.{ledger, counted};
+
+    pub(crate) fn of(histogram: &'a Histogram, bins: u16) -> Search<'a>
+        requires { (1 ≤ bins) × (bins ≤ 256) × (bins ≤ counted_levels (ledger_of histogram.now)) }
+        ensures histogram { result.histogram.now ≡ histogram.now }
+        ensures bins { result.bins ≡ bins }
+    {
+        Search {
+            histogram,
+            levels: listed(histogram),
+            bins: usize::from(bins),
+        }
+    }
+
+    // How many counted levels there are.
+    pub(crate) fn counted(&self) -> usize
+        ensures is { result ≡ counted self.now }
+        ensures few { result ≤ 1024 }
+    {
+        self.levels.len()
+    }
+
+    // The counted level at a place; the lowest has place 0.
+    pub(crate) fn level_at(&self, place: usize) -> u16
+        requires { place < counted self.now }
+        ensures { result ≡ level_at (ledger self.now) place }
+    {
+        self.levels[place]
+    }
+
+    // The representative and the price of a run.
+    pub(crate) fn price<P: Pricer>(&self, pricer: &mut P, run: Run) -> (u16, P::Kind)
+        requires { run.end < counted self.now }
+        ensures representative { result.0 ≡ representative P.Kind.Tally.ops (P.Measure.error pricer.old) (ledger self.now) run.start (run.end + 1 - run.start) }
+        ensures price { result.1 ≡ price P.Kind.Tally.ops (P.Measure.error pricer.old) (ledger self.now) run.start (run.end + 1 - run.start) }
+        ensures same { SameErrors (P.Measure.error pricer.new) (P.Measure.error pricer.old) }
+    {
         // A range is without a price if it is turned round, reaches past the levels or has no pixels: a run is none of these.
-        None => unreachable(),
+        pricer
+            .price(
+                self.histogram,
+                self.level_at(run.start),
+                self.level_at(run.end),
+            )
+            .unwrap()
     }
 }

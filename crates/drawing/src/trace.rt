@@ -1,42 +1,67 @@
 // The bins of the best division, read back from the links of the filled cells.
-ghost use Rattle.std.specs.Prelude.{◌≡◌, ℕ, ◌+◌, ◌-◌, ◌*◌, ◌<◌, ◌≤◌, map, length};
-ghost use Rattle.counting.specs.Ledger.{counted_levels};
-ghost use Rattle.counting.specs.Meaning.{ledger_of};
+ghost use Rattle.std.specs.Prelude.{◌≡◌, ◌+◌, ◌-◌, ◌*◌, ◌<◌, ◌≤◌, map};
 ghost use Rattle.pricing.specs.Errors.{SameErrors};
-ghost use Rattle.divisions.specs.Divisions.{price};
-ghost use Rattle.divisions.specs.Recurrence.{best_division};
-ghost use Rattle.drawing.specs.Cells.{Searched, Lists};
-ghost use Rattle.divisions.specs.Tables.{bins_below};
+ghost use Rattle.tables.specs.Meaning.{table_of};
+ghost use Rattle.divisions.specs.Tables.{table_for};
+ghost use Rattle.drawing.specs.Filling.{ledger, Filled, best_runs, best_bins};
 
-use crate::runs::price_run;
-use counting::Histogram;
+use crate::cells::Cells;
+use crate::search::{Run, Search};
+use arrayvec::ArrayVec;
 use pricing::Pricer;
+use tables::LevelTable;
 
-// Writes each bin's bound, the highest counted level of its run, and its representative, from the last bin to the first.
-pub(crate) fn trace<P: Pricer>(
-    pricer: &mut P,
-    histogram: &Histogram,
-    places: &[u16; 1024],
-    counted: usize,
-    bins: usize,
-    tallies: &[P::Kind],
-    links: &[u16],
-    bounds: &mut [u16],
-    representatives: &mut [u16],
-)
-    requires shape { (0 < bins) × (bins ≤ counted) × (counted ≡ counted_levels (ledger_of histogram.now)) × (length bounds.old ≡ bins) × (length representatives.old ≡ bins) }
-    requires lists { Lists (ledger_of histogram.now) places.now }
-    requires searched { Searched P.Kind.Tally.ops (price P.Kind.Tally.ops (P.Measure.error pricer.old) (ledger_of histogram.now)) counted bins (counted + 1) (counted + 1) tallies.now links.now }
-    ensures bounds { bounds.new ≡ map (λ bin. bin.0) (bins_below P.Kind.Tally.ops (P.Measure.error pricer.old) (ledger_of histogram.now) (best_division P.Kind.Tally.ops (price P.Kind.Tally.ops (P.Measure.error pricer.old) (ledger_of histogram.now)) bins counted) counted) }
-    ensures representatives { representatives.new ≡ map (λ bin. bin.1) (bins_below P.Kind.Tally.ops (P.Measure.error pricer.old) (ledger_of histogram.now) (best_division P.Kind.Tally.ops (price P.Kind.Tally.ops (P.Measure.error pricer.old) (ledger_of histogram.now)) bins counted) counted) }
-    ensures same { SameErrors (P.Measure.error pricer.new) (P.Measure.error pricer.old) }
-{
-    let mut end = counted;
-    for bin in (0..bins).rev() {
-        let start = links[(end - 1) * bins + bin] as usize;
-        let (representative, _) = price_run(pricer, histogram, places, start, end - 1);
-        bounds[bin] = places[end - 1];
-        representatives[bin] = representative;
-        end = start;
+// Bins, as the two lists that a table is made of.
+#[derive(Drop)]
+struct Bins {
+    bounds: ArrayVec<u16, 256>,
+    representatives: ArrayVec<u16, 256>,
+}
+
+impl Search<'_> {
+    // Each bin's bound, the highest counted level of its run, and its representative.
+    fn trace<P: Pricer>(&self, pricer: &mut P, cells: &Cells<'_, P::Kind>) -> Bins
+        requires { Filled P.Kind.Tally.ops (P.Measure.error pricer.old) self.now cells.now }
+        ensures bounds { result.bounds.items ≡ map (λ bin. bin.0) (best_bins P.Kind.Tally.ops (P.Measure.error pricer.old) self.now) }
+        ensures representatives { result.representatives.items ≡ map (λ bin. bin.1) (best_bins P.Kind.Tally.ops (P.Measure.error pricer.old) self.now) }
+        ensures same { SameErrors (P.Measure.error pricer.new) (P.Measure.error pricer.old) }
+    {
+        let mut bounds = ArrayVec::new();
+        let mut representatives = ArrayVec::new();
+        let mut end = self.counted();
+        for bin in (0..self.bins).rev() {
+            let start = usize::from(cells.links[(end - 1) * self.bins + bin]);
+            let last = Run {
+                start,
+                end: end - 1,
+            };
+            let (representative, _) = self.price(pricer, last);
+            bounds.push(self.level_at(last.end));
+            representatives.push(representative);
+            end = start;
+        }
+        bounds.reverse();
+        representatives.reverse();
+        Bins {
+            bounds,
+            representatives,
+        }
+    }
+
+    // The table of the best division, whose links the filled cells hold.
+    pub(crate) fn table<P: Pricer>(&self, pricer: &mut P, cells: &Cells<'_, P::Kind>) -> LevelTable
+        requires { Filled P.Kind.Tally.ops (P.Measure.error pricer.old) self.now cells.now }
+        ensures table { table_of result ≡ table_for P.Kind.Tally.ops (P.Measure.error pricer.old) (ledger self.now) (best_runs P.Kind.Tally.ops (P.Measure.error pricer.old) self.now) }
+        ensures same { SameErrors (P.Measure.error pricer.new) (P.Measure.error pricer.old) }
+    {
+        let levels = self.histogram.levels();
+        let Bins {
+            mut bounds,
+            representatives,
+        } = self.trace(pricer, cells);
+        // The last bin reaches to the highest level, so that a paler pixel than any counted one has a bin too.
+        bounds[self.bins - 1] = levels - 1;
+        // The bounds rise to the highest level and the representatives are levels, so the rules of a table hold.
+        LevelTable::of(levels, &bounds, &representatives).unwrap()
     }
 }

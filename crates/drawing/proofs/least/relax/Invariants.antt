@@ -1,5 +1,0 @@
-use Rattle.drawing.specs.Cells.{Turned}
-use Rattle.drawing.proofs.least.relax.Given as goal
-
-abbrev pub invariant-loop-k : goal.invariant-loop-k
-invariant-loop-k g l = Turned g.T.Tally.ops g.T.Tally.ops.not_above l.amount l.start l.row l.before l.k l.initial.tallies l.tallies l.initial.links l.links

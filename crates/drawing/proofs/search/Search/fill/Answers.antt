@@ -1,0 +1,32 @@
+use Rattle.std.proofs.Common.{◌≡◌, ℕ, ◌+◌, refl, ◌∙◌, subst, arith}
+use Rattle.divisions.specs.Divisions.{price}
+use Rattle.drawing.specs.Filling.{ledger, counted, SearchedTo}
+use Rattle.drawing.proofs.Placed.{nothing_searched}
+use Rattle.drawing.proofs.search.Search.fill.Goals as goal
+
+pub loop-end-init : goal.loop-end-init
+loop-end-init g c =
+    let o = g.P.Kind.Tally.ops in
+    let s = c.args.self.now in
+    ((λ k r a b. refl), nothing_searched o (price o (g.P.Measure.error c.args.pricer.now) (ledger s)) (counted s) s.bins c.args.cells.now.tallies.now c.args.cells.now.links.now c.requires.0 c.requires.1)
+
+pub loop-end-preserved : goal.loop-end-preserved
+loop-end-preserved g c =
+    let o = g.P.Kind.Tally.ops in
+    let s = c.args.self.now in
+    let error = g.P.Measure.error c.args.pricer.now in
+    let inv = c.loop-end.invariant in
+    let two : c.loop-end.end + 2 ≡ c.loop-end.end + 1 + 1 = omega arith in (
+      (λ k r a b. c.fill_end.ensures.same k r a b ∙ inv.0 k r a b),
+      subst (λ (x : ℕ). SearchedTo o (price o error (ledger s)) s x x c.fill_end.new.cells) two (c.fill_end.ensures.after error inv.0 inv.1),
+    )
+
+pub returns : goal.returns
+returns g c =
+    let o = g.P.Kind.Tally.ops in
+    let s = c.args.self.now in
+    let all : c.loop-end.end ≡ counted s = omega (arith, c.counted-end-end.ensures.is) in
+    record {
+      filled = subst (λ (n : ℕ). SearchedTo o (price o (g.P.Measure.error c.args.pricer.now) (ledger s)) s (n + 1) (n + 1) c.loop-end.cells) all c.loop-end.invariant.1;
+      same = c.loop-end.invariant.0;
+    }
