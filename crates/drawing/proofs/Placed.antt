@@ -1,5 +1,5 @@
 -- One run placed: one start more has been tried.
-use Rattle.std.proofs.Common.{◌≡◌, ℕ, zero, suc, ◌+◌, ◌-◌, ◌*◌, ◌<◌, ◌≤◌, max, Bool, false, cond, ◌≢◌, ◌⊎◌, List, [], ◌∷◌, length, get_or, set, sym, ap, ◌∙◌, subst, ap₂, inl, inr, add-one, arith, length-set}
+use Rattle.std.proofs.Common.{◌≡◌, ℕ, zero, suc, ◌+◌, ◌-◌, ◌*◌, ◌<◌, ◌≤◌, max, Bool, false, cond, ◌≢◌, ◌⊎◌, List, [], ◌∷◌, length, get_or, set, sym, refl, ap, ◌∙◌, subst, ap₂, inl, inr, suc-mul, add-one, arith, length-set}
 use Rattle.std.proofs.lemmas.List.{get_or-set_same, get_or-set_other}
 use Rattle.std.proofs.lemmas.Nat.{mul-add-lt}
 use Rattle.std.proofs.lemmas.Bool.{cases_eq, cases_lt}
@@ -173,3 +173,13 @@ nothing_searched o cost c b ts ls t l = record {
   first = (λ e. absurd (omega arith));
   tried = (λ m p need lt. absurd (omega arith));
 }
+
+-- the last cell has the least tally of all levels
+last_cell : (c b : ℕ) → 0 < c → 0 < b → c * b - 1 ≡ (c - 1) * b + (b - 1)
+last_cell c b some bins = let one : suc (c - 1) ≡ c = omega arith in let e = suc-mul (c - 1) b in let f : c * b ≡ suc (c - 1) * b = ap (λ (x : ℕ). x * b) (sym one) in omega arith
+
+pub last_tally : {C : Type 0} (o : Ops C) (cost : ℕ → ℕ → C) (c b : ℕ) (ts : List C) (ls : List ℕ) → 0 < b → b ≤ c → Searched o cost c b (c + 1) (c + 1) ts ls → get_or ts (c * b - 1) o.neutral ≡ least_tally o cost b c
+last_tally o cost c b ts ls some few s =
+    let one : b - 1 + 1 ≡ b = omega arith in
+    let cell = s.filled (b - 1) c (omega arith) (record { under = omega arith; over = omega arith; bin = omega arith; last = inr refl }) in
+    ap (λ (i : ℕ). get_or ts i o.neutral) (last_cell c b (omega arith) some) ∙ cell.least ∙ ap (λ (q : ℕ). least_tally o cost q c) one

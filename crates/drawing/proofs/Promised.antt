@@ -1,5 +1,5 @@
 -- From the filled cells to what a drawing promises.
-use Rattle.std.proofs.Common.{◌≡◌, ℕ, zero, suc, ◌+◌, ◌-◌, ◌*◌, ◌<◌, ◌≤◌, List, ◌∷◌, get_or, sym, refl, ap, ◌∙◌, subst, ap₂, inr, suc-mul, arith}
+use Rattle.std.proofs.Common.{◌≡◌, ℕ, zero, suc, ◌+◌, ◌-◌, ◌<◌, ◌≤◌, List, ◌∷◌, sym, refl, ap, ◌∙◌, subst, ap₂, inr, arith}
 use Rattle.counting.specs.Ledger.{Ledger, counted_levels}
 use Rattle.pricing.specs.Tallies.{Ops, Laws}
 use Rattle.pricing.specs.Errors.{Fair, SameErrors}
@@ -63,19 +63,9 @@ module _ {C : Type 0} (o : Ops C) (L : Laws o) (e e' : ℕ → ℕ → ℕ) (sam
       ap (table_by g.levels) (table_same o e e' same g S (best_division o (price o e g) b c) (counted_levels g) (omega arith) divides)
       ∙ ap (table_for o e' g) (divisions_same b c few some (omega arith))
 
--- the last cell
-pub last_cell : (c b : ℕ) → 0 < c → 0 < b → c * b - 1 ≡ (c - 1) * b + (b - 1)
-last_cell c b some bins = let one : suc (c - 1) ≡ c = omega arith in let e = suc-mul (c - 1) b in let f : c * b ≡ suc (c - 1) * b = ap (λ (x : ℕ). x * b) (sym one) in omega arith
-
 -- what the receipt and the table promise
 module _ {C : Type 0} (o : Ops C) (L : Laws o) (error : ℕ → ℕ → ℕ) (F : Fair error) (g : Ledger) (S : Sound g) (most c b : ℕ)
     (all : c ≡ counted_levels g) (bins : b ≡ bins_of g most) (allowed : 1 ≤ most) (some : 0 < c) where
-  pub last_tally : (ts : List C) (ls : List ℕ) → Searched o (price o error g) c b (c + 1) (c + 1) ts ls → get_or ts (c * b - 1) o.neutral ≡ least_tally o (price o error g) b c
-  last_tally ts ls s =
-      let one : b - 1 + 1 ≡ b = omega arith in
-      let cell = s.filled (b - 1) c (omega arith) (record { under = omega arith; over = omega arith; bin = omega arith; last = inr refl }) in
-      ap (λ (i : ℕ). get_or ts i o.neutral) (last_cell c b some (omega arith)) ∙ cell.least ∙ ap (λ (q : ℕ). least_tally o (price o error g) q c) one
-
   pub drew : (receipt : Receipt C) (table : Table) → receipt.tally ≡ least_tally o (price o error g) b c → table ≡ table_for o error g (best_division o (price o error g) b c) →
       receipt.bins ≡ b → receipt.priced ≡ priced_of g most → receipt.compared ≡ compared_of g most → Drew o error g most receipt table
   drew receipt table tally_is table_is bins_is priced_is compared_is =

@@ -50,14 +50,13 @@ fn draw_up<P: Pricer>(
     let bins = bins(counted, most);
     let search = Search::of(histogram, bins);
     search.fill(pricer, &mut cells);
-    let table = search.table(pricer, &cells);
     let receipt = Receipt {
-        tally: cells.tallies[search.counted() * search.bins - 1],
+        tally: search.tally(&cells),
         bins,
         priced: priced(counted, most),
         compared: compared(counted, most),
     };
-    (receipt, table)
+    (receipt, search.table(pricer, &cells))
 }
 
 // Puts the table of the best division into at most `most` bins into the place of the table. The work lists' old

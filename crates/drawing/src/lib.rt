@@ -6,10 +6,8 @@ ghost use Rattle.drawing.specs.Drawings.{DrawnTotalsArePlain};
 mod cells;
 mod drawings;
 mod law;
-mod least;
 mod receipt;
 mod search;
-mod trace;
 
 pub use divisions::{
     bins, charged_once, compared, counted_levels_are_listed, enough_bins_cost_nothing,

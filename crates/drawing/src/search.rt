@@ -1,28 +1,33 @@
 // A search for the best division of the counted levels of a histogram, and the price of a run of them.
-ghost use Rattle.std.specs.Prelude.{◌≡◌, ◌+◌, ◌-◌, ◌<◌, ◌≤◌};
+ghost use Rattle.std.specs.Prelude.{◌≡◌, ℕ, ◌+◌, ◌-◌, ◌<◌, ◌≤◌};
 ghost use Rattle.counting.specs.Ledger.{counted_levels};
 ghost use Rattle.counting.specs.Meaning.{ledger_of};
 ghost use Rattle.pricing.specs.Errors.{SameErrors};
 ghost use Rattle.divisions.specs.Divisions.{levels_of, level_at, representative, price};
+ghost use Rattle.divisions.specs.Recurrence.{least_tally};
 
+mod least;
+mod trace;
+
+use crate::cells::Cells;
 use arrayvec::ArrayVec;
 use counting::Histogram;
-use pricing::Pricer;
+use pricing::{Pricer, Tally};
 
 // A run, by the places of its lowest and its highest counted level.
 #[derive(Clone, Copy)]
-pub(crate) struct Run {
-    pub(crate) start: usize,
-    pub(crate) end: usize,
+struct Run {
+    start: usize,
+    end: usize,
     ghost order: { start ≤ end },
 }
 
 // The counted levels, in rising order, and the number of runs that they are cut into.
 #[derive(Drop)]
 pub(crate) struct Search<'a> {
-    pub(crate) histogram: &'a Histogram,
+    histogram: &'a Histogram,
     levels: ArrayVec<u16, 1024>,
-    pub(crate) bins: usize,
+    bins: usize,
     ghost listed: { levels.items ≡ levels_of (ledger_of histogram.now) },
     ghost some: { 1 ≤ bins },
     ghost few: { bins ≤ counted_levels (ledger_of histogram.now) },
@@ -43,7 +48,7 @@ fn listed(histogram: &Histogram) -> ArrayVec<u16, 1024>
 }
 
 impl<'a> Search<'a> {
-    ghost use Rattle.drawing.specs.Filling.{ledger, counted};
+    ghost use Rattle.drawing.specs.Filling.{ledger, counted, HasRoom, SearchedTo};
 
     pub(crate) fn of(histogram: &'a Histogram, bins: u16) -> Search<'a>
         requires { (1 ≤ bins) × (bins ≤ 256) × (bins ≤ counted_levels (ledger_of histogram.now)) }
@@ -58,7 +63,7 @@ impl<'a> Search<'a> {
     }
 
     // How many counted levels there are.
-    pub(crate) fn counted(&self) -> usize
+    fn counted(&self) -> usize
         ensures is { result ≡ counted self.now }
         ensures few { result ≤ 1024 }
     {
@@ -66,7 +71,7 @@ impl<'a> Search<'a> {
     }
 
     // The counted level at a place; the lowest has place 0.
-    pub(crate) fn level_at(&self, place: usize) -> u16
+    fn level_at(&self, place: usize) -> u16
         requires { place < counted self.now }
         ensures { result ≡ level_at (ledger self.now) place }
     {
@@ -74,7 +79,7 @@ impl<'a> Search<'a> {
     }
 
     // The representative and the price of a run.
-    pub(crate) fn price<P: Pricer>(&self, pricer: &mut P, run: Run) -> (u16, P::Kind)
+    fn price<P: Pricer>(&self, pricer: &mut P, run: Run) -> (u16, P::Kind)
         requires { run.end < counted self.now }
         ensures representative { result.0 ≡ representative P.Kind.Tally.ops (P.Measure.error pricer.old) (ledger self.now) run.start (run.end + 1 - run.start) }
         ensures price { result.1 ≡ price P.Kind.Tally.ops (P.Measure.error pricer.old) (ledger self.now) run.start (run.end + 1 - run.start) }
@@ -88,5 +93,13 @@ impl<'a> Search<'a> {
                 self.level_at(run.end),
             )
             .unwrap()
+    }
+
+    // The least tally of all counted levels: it stands in the last cell.
+    pub(crate) fn tally<T: Tally>(&self, cells: &Cells<'_, T>) -> T
+        requires { HasRoom self.now cells.now }
+        ensures { (cost : ℕ → ℕ → T) → SearchedTo T.Tally.ops cost self.now (counted self.now + 1) (counted self.now + 1) cells.now → result ≡ least_tally T.Tally.ops cost self.now.bins (counted self.now) }
+    {
+        cells.tallies[self.counted() * self.bins - 1]
     }
 }

@@ -20,13 +20,3 @@ loop-end-preserved g c =
       (λ k r a b. c.fill_end.ensures.same k r a b ∙ inv.0 k r a b),
       subst (λ (x : ℕ). SearchedTo o (price o error (ledger s)) s x x c.fill_end.new.cells) two (c.fill_end.ensures.after error inv.0 inv.1),
     )
-
-pub returns : goal.returns
-returns g c =
-    let o = g.P.Kind.Tally.ops in
-    let s = c.args.self.now in
-    let all : c.loop-end.end ≡ counted s = omega (arith, c.counted-end-end.ensures.is) in
-    record {
-      filled = subst (λ (n : ℕ). SearchedTo o (price o (g.P.Measure.error c.args.pricer.now) (ledger s)) s (n + 1) (n + 1) c.loop-end.cells) all c.loop-end.invariant.1;
-      same = c.loop-end.invariant.0;
-    }

@@ -25,9 +25,6 @@ loop-start-preserved g c =
           (c.put.ensures.placed (price o error (ledger s)) price-is (inv.3 error same before)),
     )
 
-pub returns : goal.returns
-returns g c = absurd (omega arith)
-
 pub returns-2 : goal.returns-2
 returns-2 g c =
     let o = g.P.Kind.Tally.ops in

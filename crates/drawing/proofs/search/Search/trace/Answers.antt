@@ -1,18 +1,10 @@
-use Rattle.std.proofs.Common.{◌≡◌, ℕ, ◌+◌, ◌-◌, ◌*◌, length, get_or, reverse, refl, ap, ◌∙◌, arith}
+use Rattle.std.proofs.Common.{◌≡◌, ℕ, ◌+◌, ◌-◌, ◌*◌, length, get_or, reverse, ap, ◌∙◌, arith}
 use Rattle.divisions.specs.Divisions.{representative}
 use Rattle.counting.proofs.Ledgers.{sound_histogram}
 use Rattle.divisions.proofs.Same.{representative_same}
 use Rattle.drawing.specs.Filling.{ledger, counted}
-use Rattle.drawing.proofs.Tracing.{reverse_more, written_over, tracing_start, tracing_cell, tracing_more, tracing_end}
+use Rattle.drawing.proofs.Tracing.{reverse_more, written_over, tracing_cell, tracing_more, tracing_end}
 use Rattle.drawing.proofs.search.Search.trace.Goals as goal
-
-pub loop-bin-init : goal.loop-bin-init
-loop-bin-init g c =
-    let s = c.args.self.now in (
-      (λ k r a b. refl),
-      rw (c.new-bounds.ensures, c.new-representatives.ensures, c.counted-end.ensures.is)
-          (tracing_start g.P.Kind.Tally.ops (g.P.Measure.error c.args.pricer.now) (ledger s) (counted s) s.bins s.few s.some),
-    )
 
 pub loop-bin-preserved : goal.loop-bin-preserved
 loop-bin-preserved g c =

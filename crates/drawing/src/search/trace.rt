@@ -5,8 +5,8 @@ ghost use Rattle.tables.specs.Meaning.{table_of};
 ghost use Rattle.divisions.specs.Tables.{table_for};
 ghost use Rattle.drawing.specs.Filling.{ledger, Filled, best_runs, best_bins};
 
+use super::{Run, Search};
 use crate::cells::Cells;
-use crate::search::{Run, Search};
 use arrayvec::ArrayVec;
 use pricing::Pricer;
 use tables::LevelTable;

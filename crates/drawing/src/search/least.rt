@@ -5,8 +5,8 @@ ghost use Rattle.divisions.specs.Divisions.{price};
 ghost use Rattle.drawing.specs.Cells.{Answers, Turned, Needed};
 ghost use Rattle.drawing.specs.Filling.{ledger, counted, HasRoom, SearchedTo, Filled};
 
+use super::{Run, Search};
 use crate::cells::Cells;
-use crate::search::{Run, Search};
 use pricing::{Pricer, Tally};
 use std::ops::Range;
 
