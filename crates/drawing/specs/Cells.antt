@@ -37,9 +37,9 @@ pub record Searched {C : Type 0} (o : Ops C) (cost : ℕ → ℕ → C) (c b n f
   pub first : from ≡ 0 → Needed c b 0 n → Cell o cost 0 n (slice_index_or ts ((n - 1) * b) o.neutral) (slice_index ls ((n - 1) * b))
   pub tried : (m : ℕ) → 0 < m → Needed c b m n → from < n → Tried o cost m n (max from m) (slice_index_or ts ((n - 1) * b + m) o.neutral) (slice_index ls ((n - 1) * b + m))
 
--- what a test answers is what a function gives
-abbrev pub Answers : {C : Type 0} → (C → C → Bool → Type 0) → (C → C → Bool) → Type 0
-Answers {C = C} post keep = (had given : C) (kept : Bool) → post had given kept → kept ≡ keep had given
+-- a test of what a cell had against what it is given computes a function of the two
+abbrev pub Computes : {C : Type 0} → (C → C → Bool → Type 0) → (C → C → Bool) → Type 0
+Computes {C = C} post keep = (had given : C) (kept : Bool) → post had given kept → kept ≡ keep had given
 
 -- A run of this price, which starts at `start`, is put after what the cells from `before` hold, and goes into the cells from `row`:
 -- `keep old new` says whether a cell keeps what it has. All other cells stay.

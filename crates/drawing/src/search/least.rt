@@ -2,7 +2,7 @@
 ghost use Rattle.std.specs.Prelude.{◌≡◌, ℕ, Bool, ◌+◌, ◌-◌, ◌*◌, ◌<◌, ◌≤◌, max, length};
 ghost use Rattle.pricing.specs.Errors.{SameErrors};
 ghost use Rattle.divisions.specs.Divisions.{price};
-ghost use Rattle.drawing.specs.Cells.{Answers, Turned, Needed};
+ghost use Rattle.drawing.specs.Cells.{Computes, Turned, Needed};
 ghost use Rattle.drawing.specs.Filling.{ledger, counted, HasRoom, SearchedTo, Filled};
 
 use super::{Run, Search};
@@ -41,7 +41,7 @@ impl Search<'_> {
         requires numbers { (1 ≤ numbers.start) × (numbers.start ≤ numbers.end) × (numbers.end ≤ self.now.bins) }
         requires room { HasRoom self.now cells.old }
         requires callable { F.IsAlwaysCallable keeps }
-        ensures { (keep : T → T → Bool) → Answers (F.post keeps) keep → Turned T.Tally.ops keep price run.start (run.end * self.now.bins + numbers.start) ((run.start - 1) * self.now.bins + (numbers.start - 1)) (numbers.end - numbers.start) cells.old.tallies.now cells.new.tallies.now cells.old.links.now cells.new.links.now }
+        ensures { (keep : T → T → Bool) → Computes (F.post keeps) keep → Turned T.Tally.ops keep price run.start (run.end * self.now.bins + numbers.start) ((run.start - 1) * self.now.bins + (numbers.start - 1)) (numbers.end - numbers.start) cells.old.tallies.now cells.new.tallies.now cells.old.links.now cells.new.links.now }
     {
         let tallies = &mut *cells.tallies;
         let links = &mut *cells.links;
