@@ -1,4 +1,5 @@
-mod Cuts
+mod Counting
+mod Filling
 mod RowWrites
 mod Telling
 mod Putting

@@ -1,67 +1,61 @@
 -- One row more written at its own place of an output.
-use Rattle.std.proofs.Common.{◌≡◌, ℕ, ◌+◌, ◌-◌, ◌*◌, ◌<◌, ◌≤◌, min, List, map, length, get_or, take, drop, Some, None, Option, sym, refl, ap, ◌∙◌, subst, ap₂, inl, inr, add-mul, one-mul, zero-mul, arith}
+use Rattle.std.proofs.Common.{◌≡◌, ℕ, ◌+◌, ◌-◌, ◌*◌, ◌<◌, ◌≤◌, min, List, map, length, get_or, take, drop, None, Ok, Err, Option, Result, sym, refl, ap, ◌∙◌, subst, ap₂, inl, inr, add-mul, one-mul, zero-mul, arith}
 use borrow.Rule.Slice.PartMut.{put_mid, put_same}
 use Rattle.std.proofs.lemmas.List.{length-take, length-drop, length-map, length-append, length-take-le, get_or_append_left, get_or-append_right, get_or-take, get_or-drop, get_or-map}
+use Rattle.std.proofs.lemmas.Option.{none-some}
 use Rattle.std.proofs.lemmas.Bool.{cases_lt, cases_eq}
-use Rattle.counting.specs.Outputs.{Row, over}
+use Rattle.refusals.specs.declared.refusal.Refusal.{Refusal}
+use Rattle.counting.specs.Outputs.{Row, row_of as row_of_refusal, over, Wrote}
 use Rattle.ffi.specs.Scans.{row_of, Written}
-use Rattle.ffi.proofs.Cuts.{cut_is}
 
 -- the cells of a list after a write to a part of it
-module _ (xs ys : List ℕ) (s e : ℕ) (low : s ≤ e) (high : e ≤ length xs) (long : length ys ≡ e - s) where
-  get_below : (k : ℕ) → k < s → get_or (put_mid s (e - s) xs ys) k 0 ≡ get_or xs k 0
-  get_below k h = get_or_append_left (take s xs) _ 0 k (omega (arith, length-take-le s xs (omega arith))) ∙ get_or-take s xs k 0 h
+module _ {X : Type 0} (xs ys : List X) (s e : ℕ) (low : s ≤ e) (high : e ≤ length xs) (long : length ys ≡ e - s) (x : X) where
+  get_below : (k : ℕ) → k < s → get_or (put_mid s (e - s) xs ys) k x ≡ get_or xs k x
+  get_below k h = get_or_append_left (take s xs) _ x k (omega (arith, length-take-le s xs (omega arith))) ∙ get_or-take s xs k x h
 
-  get_in : (k : ℕ) → s ≤ k → k < e → get_or (put_mid s (e - s) xs ys) k 0 ≡ get_or ys (k - s) 0
-  get_in k h h' = get_or-append_right (take s xs) _ s k 0 (length-take-le s xs (omega arith)) h ∙ get_or_append_left ys _ 0 (k - s) (omega arith)
+  get_in : (k : ℕ) → s ≤ k → k < e → get_or (put_mid s (e - s) xs ys) k x ≡ get_or ys (k - s) x
+  get_in k h h' = get_or-append_right (take s xs) _ s k x (length-take-le s xs (omega arith)) h ∙ get_or_append_left ys _ x (k - s) (omega arith)
 
-  get_past : (k : ℕ) → e ≤ k → get_or (put_mid s (e - s) xs ys) k 0 ≡ get_or xs k 0
+  get_past : (k : ℕ) → e ≤ k → get_or (put_mid s (e - s) xs ys) k x ≡ get_or xs k x
   get_past k h =
       let back : s + ((e - s) + ((k - s) - (e - s))) ≡ k = omega arith in
-      get_or-append_right (take s xs) _ s k 0 (length-take-le s xs (omega arith)) (omega arith) ∙ get_or-append_right ys _ (e - s) (k - s) 0 long (omega arith)
-      ∙ get_or-drop (e - s) (drop s xs) ((k - s) - (e - s)) 0 ∙ get_or-drop s xs ((e - s) + ((k - s) - (e - s))) 0 ∙ ap (λ (j : ℕ). get_or xs j 0) back
+      get_or-append_right (take s xs) _ s k x (length-take-le s xs (omega arith)) (omega arith) ∙ get_or-append_right ys _ (e - s) (k - s) x long (omega arith)
+      ∙ get_or-drop (e - s) (drop s xs) ((k - s) - (e - s)) x ∙ get_or-drop s xs ((e - s) + ((k - s) - (e - s))) x ∙ ap (λ (j : ℕ). get_or xs j x) back
 
-none_some : (r : Row) → None ≡ Some r → ⊥
-none_some r e = let z : ◌≡◌ {A = ℕ} 0 1 = cc in omega arith
-
--- Row `i` of a scan, cut from place `from` to place `to`, and its part of the output, from `s` to `e`, which then holds `part`.
-module _ (f : ℕ → ℕ) (fits : List ℕ → ℕ → Option Row) (width : ℕ) (scan before out part : List ℕ) (i from to s e : ℕ) (kept : length out ≡ length before)
-    (from_is : from ≡ min (i * width) (length scan)) (to_is : to ≡ min (i * width + width) (length scan)) (s_is : s ≡ min (i * width) (length out)) (e_is : e ≡ min (i * width + width) (length out))
+-- Row `i` of a scan, and its part of the output, from `s` to `e`, which then holds `part`.
+module _ {X Y : Type 0} (f : X → Y) (fits : List X → ℕ → Option Row) (width : ℕ) (scan row : List X) (before out part : List Y) (i s e : ℕ) (kept : length out ≡ length before)
+    (row_is : row ≡ row_of width scan i) (s_is : s ≡ min (i * width) (length out)) (e_is : e ≡ min (i * width + width) (length out))
     (long : length part ≡ length (take (e - s) (drop s out))) (w : Written f fits i width scan before out i) where
-  row : List ℕ
-  row = take (to - from) (drop from scan)
-
   room : length (take (e - s) (drop s out)) ≡ e - s
   room = omega (arith, length-take (e - s) (drop s out), length-drop s out)
 
-  row_long : length (take (to - from) (drop from scan)) ≡ to - from
-  row_long = omega (arith, length-take (to - from) (drop from scan), length-drop from scan)
+  row_long : length row ≡ min width (length scan - i * width)
+  row_long = omega (arith, ap length row_is, length-take width (drop (i * width) scan), length-drop (i * width) scan)
 
-  fits_same : fits (take (to - from) (drop from scan)) (length (take (e - s) (drop s out))) ≡ fits (row_of width scan i) (length (row_of width before i))
-  fits_same =
-      ap₂ fits (cut_is scan (i * width) width from to from_is to_is)
-      (omega (arith, room, length-take width (drop (i * width) before), length-drop (i * width) before))
+  fits_same : fits row (length (take (e - s) (drop s out))) ≡ fits (row_of width scan i) (length (row_of width before i))
+  fits_same = ap₂ fits row_is (omega (arith, room, length-take width (drop (i * width) before), length-drop (i * width) before))
 
   -- a refused row: the part is as it was
-  pub stopped_here : (rows : ℕ) → i < rows → (r : Row) → fits (take (to - from) (drop from scan)) (length (take (e - s) (drop s out))) ≡ Some r → part ≡ take (e - s) (drop s out) →
-      Written f fits rows width scan before (put_mid s (e - s) out part) i
-  stopped_here rows more r refused same =
-      let back : put_mid s (e - s) out part ≡ out = ap (put_mid s (e - s) out) same ∙ put_same s (e - s) out in
+  pub stopped_here : (rows : ℕ) → i < rows → (result : Result ℕ Refusal) (refusal : Refusal) → result ≡ Err refusal →
+      Wrote (fits row (length (take (e - s) (drop s out)))) (map f row) result (take (e - s) (drop s out)) part → Written f fits rows width scan before (put_mid s (e - s) out part) i
+  stopped_here rows more result refusal is wrote =
+      let refused = subst (λ (r : Result ℕ Refusal). Wrote (fits row (length (take (e - s) (drop s out)))) (map f row) r (take (e - s) (drop s out)) part) is wrote in
+      let back : put_mid s (e - s) out part ≡ out = ap (put_mid s (e - s) out) refused.1 ∙ put_same s (e - s) out in
       record {
         within = omega arith;
-        cells = λ k h. ap (λ (xs : List ℕ). get_or xs k 0) back ∙ w.cells k h;
-        rest = λ k h. ap (λ (xs : List ℕ). get_or xs k 0) back ∙ w.rest k h;
+        cells = λ x y k h. ap (λ (ys : List Y). get_or ys k y) back ∙ w.cells x y k h;
+        rest = λ y k h. ap (λ (ys : List Y). get_or ys k y) back ∙ w.rest y k h;
         accepted = w.accepted;
-        stopped = λ _ none. none_some r (sym none ∙ sym fits_same ∙ refused);
+        stopped = λ _ none. none-some (row_of_refusal refusal) (sym none ∙ sym fits_same ∙ refused.0);
       }
 
   -- an accepted row
-  pub one_more : fits (take (to - from) (drop from scan)) (length (take (e - s) (drop s out))) ≡ None → part ≡ over (map f (take (to - from) (drop from scan))) (take (e - s) (drop s out)) →
+  one_more : fits row (length (take (e - s) (drop s out))) ≡ None → part ≡ over (map f row) (take (e - s) (drop s out)) →
       Written f fits (i + 1) width scan before (put_mid s (e - s) out part) (i + 1)
   one_more accepts is = record {
     within = omega arith;
-    cells = λ k h. new_cell k (omega (arith, next));
-    rest = λ k h. unaltered k (omega (arith, next)) ∙ w.rest k (omega (arith, next));
+    cells = λ x y k h. new_cell x y k (omega (arith, next));
+    rest = λ y k h. unaltered y k (omega (arith, next)) ∙ w.rest y k (omega (arith, next));
     accepted = λ j h. elim (cases_eq j i) [
       | inl same ↦ ap (λ (m : ℕ). fits (row_of width scan m) (length (row_of width before m))) same ∙ sym fits_same ∙ accepts
       | inr other ↦ w.accepted j (omega arith)
@@ -72,11 +66,11 @@ module _ (f : ℕ → ℕ) (fits : List ℕ → ℕ → Option Row) (width : ℕ
       next : (i + 1) * width ≡ i * width + width
       next = add-mul i 1 width ∙ ap (λ (x : ℕ). i * width + x) (one-mul width)
 
-      cells_long : length (map f (take (to - from) (drop from scan))) ≡ to - from
-      cells_long = length-map (take (to - from) (drop from scan)) f ∙ row_long
+      cells_long : length (map f row) ≡ length row
+      cells_long = length-map row f
 
-      enough : to - from ≤ e - s
-      enough = omega (arith, ap length is, length-append (map f (take (to - from) (drop from scan))) (drop (length (map f (take (to - from) (drop from scan)))) (take (e - s) (drop s out))), cells_long, room, long)
+      enough : length row ≤ e - s
+      enough = omega (arith, ap length is, length-append (map f row) (drop (length (map f row)) (take (e - s) (drop s out))), cells_long, room, long)
 
       part_long : length part ≡ e - s
       part_long = long ∙ room
@@ -88,53 +82,60 @@ module _ (f : ℕ → ℕ) (fits : List ℕ → ℕ → Option Row) (width : ℕ
       high = omega arith
 
       -- a cell of the part that the row writes, and one that it leaves
-      written : (j : ℕ) → j < to - from → get_or part j 0 ≡ f (get_or scan (from + j) 0)
-      written j h =
-          ap (λ (xs : List ℕ). get_or xs j 0) is ∙ get_or_append_left (map f (take (to - from) (drop from scan))) _ 0 j (omega (arith, cells_long))
-          ∙ get_or-map f (take (to - from) (drop from scan)) j 0 0 (omega (arith, row_long)) ∙ ap f (get_or-take (to - from) (drop from scan) j 0 h ∙ get_or-drop from scan j 0)
+      written : (x : X) (y : Y) (j : ℕ) → j < length row → get_or part j y ≡ f (get_or scan (i * width + j) x)
+      written x y j h =
+          ap (λ (ys : List Y). get_or ys j y) is ∙ get_or_append_left (map f row) _ y j (omega (arith, cells_long)) ∙ get_or-map f row j x y h
+          ∙ ap (λ (xs : List X). f (get_or xs j x)) row_is ∙ ap f (get_or-take width (drop (i * width) scan) j x (omega (arith, row_long)) ∙ get_or-drop (i * width) scan j x)
 
-      left : (j : ℕ) → to - from ≤ j → j < e - s → get_or part j 0 ≡ get_or out (s + j) 0
-      left j h h' =
-          let n = length (map f (take (to - from) (drop from scan))) in
+      left : (y : Y) (j : ℕ) → length row ≤ j → j < e - s → get_or part j y ≡ get_or out (s + j) y
+      left y j h h' =
+          let n = length (map f row) in
           let back : n + (j - n) ≡ j = omega (arith, cells_long) in
-          ap (λ (xs : List ℕ). get_or xs j 0) is ∙ get_or-append_right (map f (take (to - from) (drop from scan))) _ n j 0 refl (omega (arith, cells_long))
-          ∙ get_or-drop n (take (e - s) (drop s out)) (j - n) 0 ∙ ap (λ (m : ℕ). get_or (take (e - s) (drop s out)) m 0) back ∙ get_or-take (e - s) (drop s out) j 0 h' ∙ get_or-drop s out j 0
+          ap (λ (ys : List Y). get_or ys j y) is ∙ get_or-append_right (map f row) _ n j y refl (omega (arith, cells_long))
+          ∙ get_or-drop n (take (e - s) (drop s out)) (j - n) y ∙ ap (λ (m : ℕ). get_or (take (e - s) (drop s out)) m y) back ∙ get_or-take (e - s) (drop s out) j y h' ∙ get_or-drop s out j y
 
-      outside : (k : ℕ) → k < i * width → get_or (put_mid s (e - s) out part) k 0 ≡ get_or out k 0
-      outside k h = elim (cases_lt k s) [
-        | inl below ↦ get_below out part s e low high part_long k below
-        | inr past ↦ get_past out part s e low high part_long k (omega arith)
+      outside : (y : Y) (k : ℕ) → k < i * width → get_or (put_mid s (e - s) out part) k y ≡ get_or out k y
+      outside y k h = elim (cases_lt k s) [
+        | inl below ↦ get_below out part s e low high part_long y k below
+        | inr past ↦ get_past out part s e low high part_long y k (omega arith)
       ]
 
-      new_cell : (k : ℕ) → k < min (i * width + width) (length scan) → get_or (put_mid s (e - s) out part) k 0 ≡ f (get_or scan k 0)
-      new_cell k h = elim (cases_lt k (min (i * width) (length scan))) [
-        | inl old ↦ outside k (omega arith) ∙ w.cells k old
+      new_cell : (x : X) (y : Y) (k : ℕ) → k < min (i * width + width) (length scan) → get_or (put_mid s (e - s) out part) k y ≡ f (get_or scan k x)
+      new_cell x y k h = elim (cases_lt k (min (i * width) (length scan))) [
+        | inl old ↦ outside y k (omega arith) ∙ w.cells x y k old
         | inr new ↦
-            let back : from + (k - s) ≡ k = omega (arith, enough) in
-            get_in out part s e low high part_long k (omega (arith, enough)) (omega (arith, enough)) ∙ written (k - s) (omega (arith, enough)) ∙ ap (λ (j : ℕ). f (get_or scan j 0)) back
+            let back : i * width + (k - s) ≡ k = omega (arith, enough, row_long) in
+            get_in out part s e low high part_long y k (omega (arith, enough, row_long)) (omega (arith, enough, row_long)) ∙ written x y (k - s) (omega (arith, enough, row_long))
+            ∙ ap (λ (j : ℕ). f (get_or scan j x)) back
       ]
 
-      unaltered : (k : ℕ) → min (i * width + width) (length scan) ≤ k → get_or (put_mid s (e - s) out part) k 0 ≡ get_or out k 0
-      unaltered k h = elim (cases_lt k s) [
-        | inl below ↦ get_below out part s e low high part_long k below
+      unaltered : (y : Y) (k : ℕ) → min (i * width + width) (length scan) ≤ k → get_or (put_mid s (e - s) out part) k y ≡ get_or out k y
+      unaltered y k h = elim (cases_lt k s) [
+        | inl below ↦ get_below out part s e low high part_long y k below
         | inr from_s ↦ elim (cases_lt k e) [
           | inl inside ↦
               let back : s + (k - s) ≡ k = omega arith in
-              get_in out part s e low high part_long k from_s inside ∙ left (k - s) (omega arith) (omega arith) ∙ ap (λ (j : ℕ). get_or out j 0) back
-          | inr past ↦ get_past out part s e low high part_long k past
+              get_in out part s e low high part_long y k from_s inside ∙ left y (k - s) (omega (arith, row_long)) (omega arith) ∙ ap (λ (j : ℕ). get_or out j y) back
+          | inr past ↦ get_past out part s e low high part_long y k past
         ]
       ]
 
+  pub next_row : (result : Result ℕ Refusal) (count : ℕ) → result ≡ Ok count → Wrote (fits row (length (take (e - s) (drop s out)))) (map f row) result (take (e - s) (drop s out)) part →
+      Written f fits (i + 1) width scan before (put_mid s (e - s) out part) (i + 1)
+  next_row result count is wrote =
+      let accepted = subst (λ (r : Result ℕ Refusal). Wrote (fits row (length (take (e - s) (drop s out)))) (map f row) r (take (e - s) (drop s out)) part) is wrote in
+      one_more accepted.0 accepted.2
+
 -- no rows yet
-pub none_yet : (f : ℕ → ℕ) (fits : List ℕ → ℕ → Option Row) (width : ℕ) (scan out : List ℕ) → Written f fits 0 width scan out out 0
+pub none_yet : {X Y : Type 0} (f : X → Y) (fits : List X → ℕ → Option Row) (width : ℕ) (scan : List X) (out : List Y) → Written f fits 0 width scan out out 0
 none_yet f fits width scan out = record {
   within = omega arith;
-  cells = λ k h. absurd (omega (arith, zero-mul width));
-  rest = λ k h. refl;
+  cells = λ x y k h. absurd (omega (arith, zero-mul width));
+  rest = λ y k h. refl;
   accepted = λ i h. absurd (omega arith);
   stopped = λ h. absurd (omega arith);
 }
 
 -- all of the rows
-pub all_rows : (f : ℕ → ℕ) (fits : List ℕ → ℕ → Option Row) (rows i width : ℕ) (scan before then : List ℕ) → i ≡ rows → Written f fits i width scan before then i → Written f fits rows width scan before then rows
+pub all_rows : {X Y : Type 0} (f : X → Y) (fits : List X → ℕ → Option Row) (rows i width : ℕ) (scan : List X) (before then : List Y) → i ≡ rows → Written f fits i width scan before then i → Written f fits rows width scan before then rows
 all_rows f fits rows i width scan before then e w = subst (λ (n : ℕ). Written f fits n width scan before then n) e w

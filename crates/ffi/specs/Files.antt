@@ -1,17 +1,11 @@
 -- What C is told of a table file that is written or read.
-use Rattle.std.specs.Prelude.{◌≡◌, ℕ, List, length, Some, None, Ok, Err, Option, Result}
-use Rattle.refusals.specs.declared.refusal.Refusal.{Refusal}
+use Rattle.std.specs.Prelude.{◌≡◌, ℕ, List, length, Some, None, Option}
 use Rattle.counting.specs.Ledger.{Ledger, pixels_at}
 use Rattle.counting.specs.Outputs.{Row, over}
 use Rattle.tables.specs.Table.{Table, bound_of, representative_of}
 use Rattle.tablefile.specs.Promises.{Reads}
 use Rattle.tablefile.specs.Theorems.{Pair}
 use Rattle.ffi.specs.Scans.{Filled}
-
--- how many cells a call wrote
-abbrev pub count_of : Result ℕ Refusal → ℕ
-count_of (Ok count) = count
-count_of (Err e) = 0
 
 -- the cells over the first of the output, and how many they are; where a row of the refusal table fits, nothing
 abbrev pub Put : Option Row → List ℕ → ℕ → List ℕ → List ℕ → Type 0

@@ -1,35 +1,18 @@
 // Drawing a table from a scan, by squared errors and their sum.
-ghost use Rattle.std.specs.Prelude.{min, length};
+ghost use Rattle.std.specs.Prelude.{◌≡◌, min, length};
+ghost use Rattle.pricing.specs.Measures.{squared};
 ghost use Rattle.tables.specs.Meaning.{table_of};
-ghost use Rattle.tables.specs.Table.{bound_of, representative_of};
 ghost use Rattle.drawing.specs.Drawings.{draw_row};
-ghost use Rattle.ffi.specs.Scans.{scanned, Filled};
+ghost use Rattle.ffi.specs.Scans.{scanned};
 ghost use Rattle.ffi.specs.Told.{Told, DrewOrRefused, Kept};
 
+use crate::cells::fill;
 use crate::drawn::Drawn;
-use crate::rows::histogram_of;
+use crate::rows::{Rows, histogram_of};
 use drawing::{Receipt, draw};
-use pricing::{CentroidPricer, Squared, Total, TrialPricer};
+use pricing::{CentroidPricer, Pricer, Squared, Total, TrialPricer};
 use refusals::Refusal;
 use tables::LevelTable;
-
-// Writes each bin's bound; 0 past the last bin.
-pub(crate) fn write_bounds(table: &LevelTable, bounds: &mut [u16])
-    ensures { Filled (bound_of (table_of table.now)) 256 bounds.old bounds.new }
-{
-    for bin in 0..bounds.len().min(256) {
-        bounds[bin] = table.bound(bin as u16);
-    }
-}
-
-// Writes each bin's representative; 0 past the last bin.
-pub(crate) fn write_representatives(table: &LevelTable, representatives: &mut [u16])
-    ensures { Filled (representative_of (table_of table.now)) 256 representatives.old representatives.new }
-{
-    for bin in 0..representatives.len().min(256) {
-        representatives[bin] = table.representative(bin as u16);
-    }
-}
 
 // Tells how a drawing went, and writes the table unless it was refused.
 fn tell(
@@ -42,24 +25,33 @@ fn tell(
 {
     match res {
         Ok(receipt) => {
-            write_bounds(table, bounds);
-            write_representatives(table, representatives);
-            Drawn {
-                refusal: 0,
-                bins: receipt.bins,
-                tally: receipt.tally.sum,
-                priced: receipt.priced,
-                compared: receipt.compared,
-            }
+            fill(bounds, 256, |bin| table.bound(bin));
+            fill(representatives, 256, |bin| table.representative(bin));
+            Drawn::from(receipt)
         }
-        Err(refusal) => Drawn {
-            refusal: u16::from(refusal.number()),
-            bins: 0,
-            tally: 0,
-            priced: 0,
-            compared: 0,
-        },
+        Err(refusal) => Drawn::from(refusal),
     }
+}
+
+// Draws a table of at most `most` bins from the scan with the pricer, and writes its bounds and representatives.
+fn draw_scan<P: Pricer<Kind = Total>>(
+    pricer: &mut P,
+    levels: u16,
+    scan: Rows<'_, u16>,
+    most: u16,
+    tallies: &mut [Total],
+    links: &mut [u16],
+    bounds: &mut [u16],
+    representatives: &mut [u16],
+) -> Drawn
+    requires { P.Measure.error pricer.old ≡ squared }
+    ensures told { DrewOrRefused (draw_row (scanned levels scan.entry.rows scan.entry.width scan.entry.cells.now) most (min (length tallies.old) (length links.old))) (scanned levels scan.entry.rows scan.entry.width scan.entry.cells.now) most result bounds.old bounds.new representatives.old representatives.new }
+    ensures lists { Kept (draw_row (scanned levels scan.entry.rows scan.entry.width scan.entry.cells.now) most (min (length tallies.old) (length links.old))) tallies.old tallies.new links.old links.new }
+{
+    let histogram = histogram_of(levels, scan);
+    let mut table = LevelTable::fresh();
+    let result = draw(pricer, &histogram, most, tallies, links, &mut table);
+    tell(result, &table, bounds, representatives)
 }
 
 // Draws a table of at most `most` bins from the first `rows` rows, with the centroid pricer, and writes its bounds and
@@ -78,11 +70,21 @@ pub fn slip_draw(
     ensures told { DrewOrRefused (draw_row (scanned levels rows width scan.now) most (min (length tallies.old) (length links.old))) (scanned levels rows width scan.now) most result bounds.old bounds.new representatives.old representatives.new }
     ensures lists { Kept (draw_row (scanned levels rows width scan.now) most (min (length tallies.old) (length links.old))) tallies.old tallies.new links.old links.new }
 {
-    let histogram = histogram_of(levels, rows, width, scan);
-    let mut table = LevelTable::fresh();
-    let mut pricer = CentroidPricer::new();
-    let result = draw(&mut pricer, &histogram, most, tallies, links, &mut table);
-    tell(result, &table, bounds, representatives)
+    let scan = Rows {
+        rows,
+        width,
+        cells: scan,
+    };
+    draw_scan(
+        &mut CentroidPricer::new(),
+        levels,
+        scan,
+        most,
+        tallies,
+        links,
+        bounds,
+        representatives,
+    )
 }
 
 // The same with the trial pricer.
@@ -100,9 +102,19 @@ pub fn slip_draw_by_trial(
     ensures told { DrewOrRefused (draw_row (scanned levels rows width scan.now) most (min (length tallies.old) (length links.old))) (scanned levels rows width scan.now) most result bounds.old bounds.new representatives.old representatives.new }
     ensures lists { Kept (draw_row (scanned levels rows width scan.now) most (min (length tallies.old) (length links.old))) tallies.old tallies.new links.old links.new }
 {
-    let histogram = histogram_of(levels, rows, width, scan);
-    let mut table = LevelTable::fresh();
-    let mut pricer = TrialPricer::<Squared, Total>::new(Squared::new());
-    let result = draw(&mut pricer, &histogram, most, tallies, links, &mut table);
-    tell(result, &table, bounds, representatives)
+    let scan = Rows {
+        rows,
+        width,
+        cells: scan,
+    };
+    draw_scan(
+        &mut TrialPricer::<Squared, Total>::new(Squared::new()),
+        levels,
+        scan,
+        most,
+        tallies,
+        links,
+        bounds,
+        representatives,
+    )
 }

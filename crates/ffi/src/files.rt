@@ -5,24 +5,12 @@ ghost use Rattle.tables.specs.Table.{Lawful, given};
 ghost use Rattle.tablefile.specs.Bytes.{bytes_of};
 ghost use Rattle.tablefile.specs.Faults.{first_fault};
 ghost use Rattle.tablefile.specs.Promises.{write_row};
-ghost use Rattle.ffi.specs.Files.{count_of, Put, Got};
+ghost use Rattle.ffi.specs.Files.{Put, Got};
 
-use crate::drawings::{write_bounds, write_representatives};
-use crate::scans::write_pixels;
+use crate::cells::fill;
 use counting::Histogram;
-use refusals::Refusal;
 use tablefile::{read, write};
 use tables::LevelTable;
-
-// How many cells were written; by a refused call none.
-fn written(res: Result<usize, Refusal>) -> usize
-    ensures { result ≡ count_of res }
-{
-    match res {
-        Ok(count) => count,
-        Err(_) => 0,
-    }
-}
 
 // Writes the file of the histogram with these pixels and the table of these bounds and representatives over the first bytes of
 // the output; gives how many. Nothing is written where they make no histogram or no table, or the output is too short.
@@ -36,7 +24,7 @@ pub fn slip_write(at: &[u32], bounds: &[u16], representatives: &[u16], out: &mut
     let Some(table) = LevelTable::of(histogram.levels(), bounds, representatives) else {
         return 0;
     };
-    written(write(&histogram, &table, out))
+    write(&histogram, &table, out).unwrap_or(0)
 }
 
 // Reads a file, and writes the pixels at each level and each bin's bound and representative; gives 0, or the number of the
@@ -54,8 +42,8 @@ pub fn slip_read(
     if let Err(refusal) = read(file, &mut histogram, &mut table) {
         return u16::from(refusal.number());
     }
-    write_pixels(&histogram, at);
-    write_bounds(&table, bounds);
-    write_representatives(&table, representatives);
+    fill(at, 1024, |level| histogram.pixels_at(level));
+    fill(bounds, 256, |bin| table.bound(bin));
+    fill(representatives, 256, |bin| table.representative(bin));
     0
 }

@@ -2,6 +2,7 @@
 // the other; no call requires anything of its arguments.
 #![tactic(auto)]
 
+mod cells;
 mod drawings;
 mod drawn;
 mod files;

@@ -1,9 +1,27 @@
 // The rows of a scan, and its histogram.
 ghost use Rattle.std.specs.Prelude.{◌≡◌, ◌+◌, ◌*◌, ◌≤◌, min};
 ghost use Rattle.counting.specs.Meaning.{ledger_of};
-ghost use Rattle.ffi.specs.Scans.{scanned};
+ghost use Rattle.ffi.specs.Scans.{row_of, scanned};
 
 use counting::Histogram;
+
+// A scan: the first `rows` rows of `width` cells that stand one after the other in a list.
+#[derive(Clone, Copy)]
+pub(crate) struct Rows<'a, T> {
+    pub(crate) rows: usize,
+    pub(crate) width: usize,
+    pub(crate) cells: &'a [T],
+}
+
+impl<'a, T> Rows<'a, T> {
+    // Row `i`, or what the list has of it.
+    pub(crate) fn row(&self, i: usize) -> &'a [T]
+        ensures { result.now ≡ row_of self.now.width self.now.cells.now i }
+    {
+        let (from, to) = span(self.cells.len(), self.width, i);
+        &self.cells[from..to]
+    }
+}
 
 // From where to where row `i` stands in a list of `length` cells, or what there is of it.
 pub(crate) fn span(length: usize, width: usize, i: usize) -> (usize, usize)
@@ -13,15 +31,14 @@ pub(crate) fn span(length: usize, width: usize, i: usize) -> (usize, usize)
     (from, from.saturating_add(width).min(length))
 }
 
-// The histogram of `levels` levels and the first `rows` rows; a refused call alters nothing.
-pub(crate) fn histogram_of(levels: u16, rows: usize, width: usize, scan: &[u16]) -> Histogram
-    ensures { ledger_of result ≡ scanned levels rows width scan.now }
+// The histogram of `levels` levels and the scan's rows; a refused call alters nothing.
+pub(crate) fn histogram_of(levels: u16, scan: Rows<'_, u16>) -> Histogram
+    ensures { ledger_of result ≡ scanned levels scan.entry.rows scan.entry.width scan.entry.cells.now }
 {
     let mut histogram = Histogram::fresh();
     let _ = histogram.open(levels);
-    for i in 0..rows {
-        let (from, to) = span(scan.len(), width, i);
-        let _ = histogram.count(&scan[from..to]);
+    for i in 0..scan.rows {
+        let _ = histogram.count(scan.row(i));
     }
     histogram
 }

@@ -18,6 +18,6 @@ returns c =
     let table : table_of c.in-Some-of.table ≡ given (length c.args.at.now) bounds greys = c.in-Some-of.ensures
     ∙ ap (λ (levels : ℕ). given levels bounds greys) (c.levels.ensures ∙ ap (λ (g : Ledger). g.levels) made) in
     record {
-      lawful = λ sound law. put_pair (ledger_of c.in-Some.histogram) _ (table_of c.in-Some-of.table) _ _ _ c.write.result _ made table c.written.ensures c.write.ensures;
+      lawful = λ sound law. put_pair (ledger_of c.in-Some.histogram) _ (table_of c.in-Some-of.table) _ _ _ c.write.result _ made table c.unwrap_or.ensures c.write.ensures;
       lawless = λ no. absurd (no (subst Sound made (sound_histogram c.in-Some.histogram)) (subst Lawful table (lawful_table c.in-Some-of.table)));
     }

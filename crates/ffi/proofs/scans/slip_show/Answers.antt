@@ -1,5 +1,6 @@
 -- The rows are shown by the table of the given bounds and representatives.
-use Rattle.std.proofs.Common.{subst}
+use Rattle.std.proofs.Common.{rules, subst}
+use Rattle.tables.specs.Meaning.{table_of}
 use Rattle.tables.specs.Table.{Table, Lawful, representative_of}
 use Rattle.tables.specs.Rows.{show_row}
 use Rattle.tables.proofs.Bins.{lawful_table}
@@ -9,7 +10,9 @@ use Rattle.ffi.proofs.scans.slip_show.Goals as goal
 pub returns : goal.returns
 returns c =
     let made = c.in-Some.ensures in
+    let table = table_of c.in-Some.table in
     record {
-      lawful = λ _. subst (λ (t : Table). Written (representative_of t) (show_row t) c.args.rows c.args.width c.args.indices.now c.args.out.now c.show_rows.new.out c.show_rows.result) made c.show_rows.ensures;
+      lawful = λ _. subst (λ (t : Table). Written (representative_of t) (show_row t) c.args.rows c.args.width c.args.indices.now c.args.out.now c.write_rows.new.out c.write_rows.result) made
+          (c.write_rows.ensures (representative_of table) (show_row table) (λ row part written left called. search rules));
       lawless = λ no. absurd (no (subst Lawful made (lawful_table c.in-Some.table)));
     }
