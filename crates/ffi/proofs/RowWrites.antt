@@ -1,7 +1,7 @@
 -- One row more written at its own place of an output.
-use Rattle.std.proofs.Common.{◌≡◌, ℕ, ◌+◌, ◌-◌, ◌*◌, ◌<◌, ◌≤◌, min, List, map, length, get_or, take, drop, None, Ok, Err, Option, Result, sym, refl, ap, ◌∙◌, subst, ap₂, inl, inr, add-mul, one-mul, zero-mul, arith}
+use Rattle.std.proofs.Common.{◌≡◌, ℕ, ◌+◌, ◌-◌, ◌*◌, ◌<◌, ◌≤◌, min, List, map, length, get_or, take, drop, None, Ok, Err, Option, Result, sym, refl, ap, ◌∙◌, subst, ap₂, inl, inr, add-mul, one-mul, arith, rules}
 use borrow.Rule.Slice.PartMut.{put_mid, put_same}
-use Rattle.std.proofs.lemmas.List.{length-take, length-drop, length-map, length-append, length-take-le, get_or_append_left, get_or-append_right, get_or-take, get_or-drop, get_or-map}
+use Rattle.std.proofs.lemmas.List.{places, length-take, length-drop, length-map, length-append, get_or_append_left, get_or-append_right, get_or-take, get_or-drop, get_or-map}
 use Rattle.std.proofs.lemmas.Option.{none-some}
 use Rattle.std.proofs.lemmas.Bool.{cases_lt, cases_eq}
 use Rattle.refusals.specs.declared.refusal.Refusal.{Refusal}
@@ -11,16 +11,13 @@ use Rattle.ffi.specs.Scans.{row_of, Written}
 -- the cells of a list after a write to a part of it
 module _ {X : Type 0} (xs ys : List X) (s e : ℕ) (low : s ≤ e) (high : e ≤ length xs) (long : length ys ≡ e - s) (x : X) where
   get_below : (k : ℕ) → k < s → get_or (put_mid s (e - s) xs ys) k x ≡ get_or xs k x
-  get_below k h = get_or_append_left (take s xs) _ x k (omega (arith, length-take-le s xs (omega arith))) ∙ get_or-take s xs k x h
+  get_below k h = search (rules, places)
 
   get_in : (k : ℕ) → s ≤ k → k < e → get_or (put_mid s (e - s) xs ys) k x ≡ get_or ys (k - s) x
-  get_in k h h' = get_or-append_right (take s xs) _ s k x (length-take-le s xs (omega arith)) h ∙ get_or_append_left ys _ x (k - s) (omega arith)
+  get_in k h h' = search (rules, places)
 
   get_past : (k : ℕ) → e ≤ k → get_or (put_mid s (e - s) xs ys) k x ≡ get_or xs k x
-  get_past k h =
-      let back : s + ((e - s) + ((k - s) - (e - s))) ≡ k = omega arith in
-      get_or-append_right (take s xs) _ s k x (length-take-le s xs (omega arith)) (omega arith) ∙ get_or-append_right ys _ (e - s) (k - s) x long (omega arith)
-      ∙ get_or-drop (e - s) (drop s xs) ((k - s) - (e - s)) x ∙ get_or-drop s xs ((e - s) + ((k - s) - (e - s))) x ∙ ap (λ (j : ℕ). get_or xs j x) back
+  get_past k h = search (rules, places)
 
 -- Row `i` of a scan, and its part of the output, from `s` to `e`, which then holds `part`.
 module _ {X Y : Type 0} (f : X → Y) (fits : List X → ℕ → Option Row) (width : ℕ) (scan row : List X) (before out part : List Y) (i s e : ℕ) (kept : length out ≡ length before)
@@ -125,16 +122,6 @@ module _ {X Y : Type 0} (f : X → Y) (fits : List X → ℕ → Option Row) (wi
   next_row result count is wrote =
       let accepted = subst (λ (r : Result ℕ Refusal). Wrote (fits row (length (take (e - s) (drop s out)))) (map f row) r (take (e - s) (drop s out)) part) is wrote in
       one_more accepted.0 accepted.2
-
--- no rows yet
-pub none_yet : {X Y : Type 0} (f : X → Y) (fits : List X → ℕ → Option Row) (width : ℕ) (scan : List X) (out : List Y) → Written f fits 0 width scan out out 0
-none_yet f fits width scan out = record {
-  within = omega arith;
-  cells = λ x y k h. absurd (omega (arith, zero-mul width));
-  rest = λ y k h. refl;
-  accepted = λ i h. absurd (omega arith);
-  stopped = λ h. absurd (omega arith);
-}
 
 -- all of the rows
 pub all_rows : {X Y : Type 0} (f : X → Y) (fits : List X → ℕ → Option Row) (rows i width : ℕ) (scan : List X) (before then : List Y) → i ≡ rows → Written f fits i width scan before then i → Written f fits rows width scan before then rows

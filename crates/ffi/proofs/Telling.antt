@@ -1,5 +1,5 @@
 -- From what a drawing gives and what is told of it to what is told of the drawn scan.
-use Rattle.std.proofs.Common.{◌≡◌, ℕ, List, IfOk, IfErr, Ok, Err, Option, Result, sym, subst}
+use Rattle.std.proofs.Common.{◌≡◌, ℕ, List, IfOk, Ok, Err, Option, Result, sym, subst}
 use Rattle.counting.specs.Ledger.{Ledger}
 use Rattle.counting.specs.Outputs.{Row, Judged}
 use Rattle.refusals.specs.declared.refusal.Refusal.{Refusal}
@@ -9,7 +9,7 @@ use Rattle.pricing.specs.declared.tallies.total.Total.{Total}
 use Rattle.tables.specs.Table.{Table}
 use Rattle.drawing.specs.Drawings.{Drew, draw_row}
 use Rattle.drawing.specs.declared.receipt.Receipt.{Receipt}
-use Rattle.ffi.specs.Told.{Told, DrewOrRefused, Kept}
+use Rattle.ffi.specs.Told.{Told, DrewOrRefused}
 use Rattle.ffi.specs.declared.drawn.Drawn.{Drawn}
 
 module _ (most cells : ℕ) (table : Table) (d : Drawn) (bounds bounds' greys greys' : List ℕ) where
@@ -26,14 +26,3 @@ module _ (most cells : ℕ) (table : Table) (d : Drawn) (bounds bounds' greys gr
   told_of_scan error g scan result squares same j drew told =
       subst (λ (x : Ledger). DrewOrRefused (draw_row x most cells) x most d bounds bounds' greys greys') same
       (judged g result j (subst (λ (err : ℕ → ℕ → ℕ). IfOk result (λ receipt. Drew total_ops err g most receipt table)) squares drew) told)
-
--- a refused drawing of the scan leaves the work lists, whatever else it leaves
-module _ (most cells : ℕ) (before after : Type 0) (tallies tallies' : List Total) (links links' : List ℕ) where
-  kept : (g : Ledger) (result : Result (Receipt Total) Refusal) → Judged (draw_row g most cells) result → IfErr result (λ _. before × (tallies' ≡ tallies) × (links' ≡ links) × after) →
-      Kept (draw_row g most cells) tallies tallies' links links'
-  kept g (Ok receipt) j left = subst (λ (row : Option Row). Kept row tallies tallies' links links') (sym j) left
-  kept g (Err e) j left = subst (λ (row : Option Row). Kept row tallies tallies' links links') (sym j) (left.1, left.2)
-
-  pub kept_of_scan : (g scan : Ledger) (result : Result (Receipt Total) Refusal) → g ≡ scan → Judged (draw_row g most cells) result →
-      IfErr result (λ _. before × (tallies' ≡ tallies) × (links' ≡ links) × after) → Kept (draw_row scan most cells) tallies tallies' links links'
-  kept_of_scan g scan result same j left = subst (λ (x : Ledger). Kept (draw_row x most cells) tallies tallies' links links') same (kept g result j left)

@@ -1,10 +1,7 @@
 -- One row more is written at its place, or the first that is refused ends it.
 use Rattle.std.proofs.Common.{arith}
-use Rattle.ffi.proofs.RowWrites.{none_yet, next_row, stopped_here, all_rows}
+use Rattle.ffi.proofs.RowWrites.{next_row, stopped_here, all_rows}
 use Rattle.ffi.proofs.scans.write_rows.Goals as goal
-
-pub loop-i-init : goal.loop-i-init
-loop-i-init g c = λ f fits writes. none_yet f fits _ _ _
 
 pub loop-i-preserved : goal.loop-i-preserved
 loop-i-preserved g c = λ f fits writes.
