@@ -3,7 +3,7 @@ use Rattle.std.proofs.Common.{◌≡◌, ℕ, ◌+◌, ◌<◌, min, List, [], �
 use Rattle.std.proofs.lemmas.List.{at_drop_more, length-drop, take_all}
 use Rattle.std.proofs.lemmas.Result.{MatchResult-at_ok}
 use Rattle.std.specs.Option.{option_map}
-use Rattle.counting.specs.Ledger.{Asked, opened, counted, after, told}
+use Rattle.counting.specs.Ledger.{Ledger, Asked, opened, counted, after, told}
 use Rattle.counting.specs.Meaning.{ledger_of}
 use Rattle.counting.specs.Outputs.{Row, Judged}
 use Rattle.refusals.specs.Refusals.{refusal_number}
@@ -71,6 +71,15 @@ module _ {P : Type 0} (levels most : ℕ) (row : Bor (List ℕ)) {answers : List
       let told_so = subst (λ ts. first_refusal ts (draw_row (after calls) most 4096) ≡ Some (refusal_number e)) tells first in
       subst (λ o. MatchOption o (Printed (after calls) most text) (λ number. text ≡ refused_line number)) (sym told_so) line
 
+  drew : (receipt : Receipt Sum) → outcome_of answers result ≡ Ok receipt → Drew total_ops squared (after calls) most receipt (table_of table')
+  drew receipt is =
+      let none = none_refused result (draw_row (after calls) most 4096) judged answers receipt is in
+      MatchResult-at_ok (λ r. Drew total_ops squared (after calls) most r (table_of table')) (λ _. Unit {0}) receipt none.0 run.drawn.drew
+
+  -- the table that is drawn has the levels of the histogram
+  pub same_levels : (receipt : Receipt Sum) → outcome_of answers result ≡ Ok receipt → (table_of table').levels ≡ (ledger_of place).levels
+  same_levels receipt is = (drew receipt is).levels ∙ sym (ap (λ (g : Ledger). g.levels) run.counted.ledger)
+
   pub drawn_answered : (receipt : Receipt Sum) (text : List ℕ) → outcome_of answers result ≡ Ok receipt → text ≡ bin_lines (ledger_of place) (table_of table') ++ figures_line receipt → Answered calls most text
   drawn_answered receipt text is lines =
       let none = none_refused result (draw_row (after calls) most 4096) judged answers receipt is in
@@ -78,7 +87,7 @@ module _ {P : Type 0} (levels most : ℕ) (row : Bor (List ℕ)) {answers : List
       let printed : Printed (after calls) most text = record {
         receipt = receipt;
         table = table_of table';
-        drew = MatchResult-at_ok (λ r. Drew total_ops squared (after calls) most r (table_of table')) (λ _. Unit {0}) receipt none.0 run.drawn.drew;
+        drew = drew receipt is;
         lines = lines ∙ ap (λ g. bin_lines g (table_of table') ++ figures_line receipt) run.counted.ledger;
       } in
       subst (λ o. MatchOption o (Printed (after calls) most text) (λ number. text ≡ refused_line number)) (sym told_so) printed

@@ -1,37 +1,11 @@
--- The pixels of a span of levels: one level more, and that they are not more than all pixels. And where a bin begins.
-use Rattle.std.proofs.Common.{◌≡◌, ℕ, zero, suc, ◌+◌, ◌-◌, ◌<◌, ◌≤◌, List, map, length, get_or, drop, sum, ap, ◌∙◌, ⊎_elim, arith}
-use Rattle.std.proofs.lemmas.List.FromFn.{sum_by-map-range_with_len_more}
-use Rattle.std.proofs.lemmas.List.{drop_all, get_or_past}
-use Rattle.std.proofs.lemmas.List.Sums.{sum_by-cons, sum_by-drop_more, sum_by-take-drop}
-use Rattle.std.proofs.lemmas.Bool.{cases_lt}
-use Rattle.std.specs.List.{range_with_len}
-use Rattle.counting.specs.Ledger.{Ledger, pixels_at, total_of}
+-- The levels of a bin: where they begin and end, and that they have no more pixels than all levels.
+use Rattle.std.proofs.Common.{◌≡◌, ℕ, zero, suc, ◌+◌, ◌-◌, ◌<◌, ◌≤◌, List, length, get_or, drop, sum, slice_range, ap, add-one, arith}
+use Rattle.std.proofs.lemmas.List.Sums.{sum_by-take-drop, sum_by-take-le}
 use Rattle.tables.specs.Table.{Table, Lawful, bound_of}
+use Rattle.branch.specs.Report.{first_of}
 
--- the pixels at the levels from `first` up to `level`, `level` itself left out
-abbrev pub before : Ledger → ℕ → ℕ → ℕ
-before g first level = sum (map (pixels_at g) (range_with_len first (level - first)))
-
-pub before_more : (g : Ledger) (first level : ℕ) → first ≤ level → before g first (level + 1) ≡ before g first level + pixels_at g level
-before_more g first level h =
-    let one : level + 1 - first ≡ level - first + 1 = omega arith in
-    ap (λ n. sum (map (pixels_at g) (range_with_len first n))) one ∙ sum_by-map-range_with_len_more (λ n. n) (pixels_at g) first (level - first) level (omega arith)
-
-pub same_before : (g : Ledger) (first level other : ℕ) → level - first ≡ other - first → before g first level ≡ before g first other
-same_before g first level other e = ap (λ n. sum (map (pixels_at g) (range_with_len first n))) e
-
-not_above_rest : (xs : List ℕ) (a n : ℕ) → sum (map (λ l. get_or xs l 0) (range_with_len a n)) ≤ sum (drop a xs)
-not_above_rest xs a zero = omega arith
-not_above_rest xs a (suc n) =
-    let first = sum_by-cons (λ x. x) (get_or xs a 0) (map (λ l. get_or xs l 0) (range_with_len (a + 1) n)) in
-    let rest = not_above_rest xs (a + 1) n in
-    ⊎_elim
-    (λ below. omega (arith, sum_by-drop_more (λ x. x) xs a 0 below))
-    (λ past. omega (arith, get_or_past xs a 0 past, ap sum (drop_all (a + 1) xs (omega arith))))
-    (cases_lt a (length xs))
-
-pub before_le : (g : Ledger) (first level : ℕ) → before g first level ≤ total_of g
-before_le g first level = omega (arith, not_above_rest g.at first (level - first), sum_by-take-drop (λ x. x) g.at first)
+pub part_le : (xs : List ℕ) (from to : ℕ) → sum (slice_range xs from to) ≤ sum xs
+part_le xs from to = omega (arith, sum_by-take-drop (λ x. x) xs from, sum_by-take-le (λ x. x) (drop from xs) (to - from))
 
 -- a bound lies below the last one by at least as many levels as there are bins between
 below_last : (t : Table) → Lawful t → (d bin : ℕ) → bin + d + 1 ≡ length t.bounds → bound_of t bin + d + 1 ≤ t.levels
@@ -42,3 +16,13 @@ below_last t law (suc d) bin e = omega (arith, law.rising bin (omega arith), bel
 
 pub bound_below : (t : Table) → Lawful t → (bin : ℕ) → bin < length t.bounds → bound_of t bin < t.levels
 bound_below t law bin h = omega (arith, below_last t law (length t.bounds - bin - 1) bin (omega arith))
+
+pub first_le : (t : Table) → Lawful t → (bin : ℕ) → bin < length t.bounds → first_of t bin ≤ bound_of t bin + 1
+first_le t law zero h = omega arith
+first_le t law (suc bin) h =
+    let above : bound_of t bin < bound_of t (suc bin) = rw add-one at (law.rising bin (omega arith)) in
+    omega arith
+
+-- the bin after a bin begins above its bound
+pub next_first : (t : Table) (bin bound : ℕ) → bound ≡ bound_of t bin → bound + 1 ≡ first_of t (bin + 1)
+next_first t bin bound is = rw (add-one bin) (ap (λ (level : ℕ). level + 1) is)

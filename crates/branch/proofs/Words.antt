@@ -1,5 +1,7 @@
 -- How many numbers bytes write, and which; and the report of an input that is not too short.
-use Rattle.std.proofs.Common.{◌≡◌, ℕ, zero, suc, ◌+◌, ◌*◌, ◌/◌, ◌%◌, ◌<◌, ◌≤◌, false, List, [], ◌∷◌, length, get_or, drop, codes, MatchBool, sym, refl, ap, subst, arith}
+use Rattle.std.proofs.Common.{◌≡◌, ℕ, zero, suc, ◌+◌, ◌*◌, ◌/◌, ◌%◌, ◌<◌, ◌≤◌, false, List, [], ◌∷◌, length, get_or, drop, codes, MatchBool, map, w16, ◌∙◌, ap₂, sym, refl, ap, subst, arith}
+use Rattle.std.specs.Int.{from_be_bytes}
+use Rattle.std.specs.Simd.{first_chunks}
 use Rattle.std.proofs.lemmas.Bool.{le-ltb, ne_eqb}
 use Rattle.counting.specs.Ledger.{opened, counted}
 use Rattle.branch.specs.Report.{numbers_of, too_short, calls_of, most_of, Answered, Reported}
@@ -9,14 +11,13 @@ length_numbers [] = refl
 length_numbers (byte ∷ []) = refl
 length_numbers (high ∷ low ∷ bytes) = let rest = length_numbers bytes in omega arith
 
-pub number_at : (bytes : List ℕ) (i : ℕ) → i < length bytes / 2 → get_or bytes (2 * i) 0 * 256 + get_or bytes (2 * i + 1) 0 ≡ get_or (numbers_of bytes) i 0
-number_at [] i h = omega arith
-number_at (byte ∷ []) i h = omega arith
-number_at (high ∷ low ∷ bytes) zero h = omega arith
-number_at (high ∷ low ∷ bytes) (suc i) h =
-    let even : 2 * suc i ≡ suc (suc (2 * i)) = omega arith in
-    let odd : suc (suc (2 * i)) + 1 ≡ suc (suc (2 * i + 1)) = omega arith in
-    rw (even, odd) (number_at bytes i (omega arith))
+pub pairs_are : (bytes : List ℕ) → map (λ (pair : List ℕ). from_be_bytes w16 pair) (first_chunks 2 (length bytes / 2) bytes) ≡ numbers_of bytes
+pairs_are [] = refl
+pairs_are (byte ∷ []) = refl
+pairs_are (high ∷ low ∷ bytes) =
+    let one_more : length (high ∷ low ∷ bytes) / 2 ≡ suc (length bytes / 2) = omega arith in
+    let first : from_be_bytes w16 (high ∷ low ∷ []) ≡ 256 * high + low = omega arith in
+    ap (λ (n : ℕ). map (λ (pair : List ℕ). from_be_bytes w16 pair) (first_chunks 2 n (high ∷ low ∷ bytes))) one_more ∙ ap₂ ◌∷◌ first (pairs_are bytes)
 
 -- the text of an input that is not too short
 module _ (input : List ℕ) (long : 4 ≤ length input) (even : length input % 2 ≡ 1 → ⊥) where

@@ -8,10 +8,9 @@ use std::alloc::{AllocError, Global};
 pub fn numbers(heap: Global, input: &[u8]) -> Result<Vec<u16>, AllocError>
     ensures { IfOk result (λ v. v.items ≡ numbers_of input.now) }
 {
-    let count = input.len() / 2;
-    let mut numbers = Vec::with_capacity(heap, count)?;
-    for i in 0..count {
-        numbers.push(u16::from_be_bytes([input[2 * i], input[2 * i + 1]]))?;
-    }
-    Ok(numbers)
+    let (pairs, _) = input.as_chunks::<2>();
+    pairs
+        .iter()
+        .map(|pair| u16::from_be_bytes(*pair))
+        .collect(heap)
 }

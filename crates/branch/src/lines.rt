@@ -1,5 +1,5 @@
 // The lines of a drawn table.
-ghost use Rattle.std.specs.Prelude.{◌≡◌, ◌<◌, ◌++◌, length, IfOk, string_bytes};
+ghost use Rattle.std.specs.Prelude.{◌≡◌, ◌+◌, ◌<◌, ◌≤◌, ◌++◌, length, IfOk, string_bytes};
 ghost use Rattle.counting.specs.Meaning.{ledger_of};
 ghost use Rattle.refusals.specs.Refusals.{refusal_number};
 ghost use Rattle.tables.specs.Meaning.{table_of};
@@ -14,38 +14,26 @@ use tables::LevelTable;
 
 // How many pixels stand at the levels from `first` to `last`, both included.
 fn pixels_between(histogram: &Histogram, first: u16, last: u16) -> u32
+    requires { (first ≤ last + 1) × (last < (ledger_of histogram.now).levels) }
     ensures { result ≡ pixels_between (ledger_of histogram.now) first last }
 {
-    let mut pixels = 0;
-    for level in first..=last {
-        pixels += histogram.pixels_at(level);
-    }
-    pixels
+    histogram.pixels()[usize::from(first)..=usize::from(last)]
+        .iter()
+        .sum()
 }
 
-// The lowest level of a bin.
-fn first_level(table: &LevelTable, bin: u16) -> u16
-    requires { bin < length (table_of table.now).bounds }
-    ensures { result ≡ first_of (table_of table.now) bin }
-{
-    if bin == 0 {
-        0
-    } else {
-        table.bound(bin - 1) + 1
-    }
-}
-
-// The line of a bin.
+// The line of a bin whose lowest level is `first`.
 fn bin_line(
     heap: Global,
     histogram: &Histogram,
     table: &LevelTable,
     bin: u16,
+    first: u16,
 ) -> Result<String, AllocError>
-    requires { bin < length (table_of table.now).bounds }
+    requires levels { (table_of table.now).levels ≡ (ledger_of histogram.now).levels }
+    requires bin { (bin < length (table_of table.now).bounds) × (first ≡ first_of (table_of table.now) bin) }
     ensures { IfOk result (λ s. string_bytes s ≡ bin_line (ledger_of histogram.now) (table_of table.now) bin) }
 {
-    let first = first_level(table, bin);
     let bound = table.bound(bin);
     let representative = table.representative(bin);
     let pixels = pixels_between(histogram, first, bound);
@@ -54,12 +42,15 @@ fn bin_line(
 
 // The lines of all bins.
 fn bin_lines(heap: Global, histogram: &Histogram, table: &LevelTable) -> Result<String, AllocError>
+    requires { (table_of table.now).levels ≡ (ledger_of histogram.now).levels }
     ensures { IfOk result (λ s. string_bytes s ≡ bin_lines (ledger_of histogram.now) (table_of table.now)) }
 {
     let mut text = String::new(heap);
+    let mut first = 0;
     for bin in 0..table.bins() {
-        let line = bin_line(heap, histogram, table, bin)?;
+        let line = bin_line(heap, histogram, table, bin, first)?;
         text.push_str(line.as_str())?;
+        first = table.bound(bin) + 1;
     }
     Ok(text)
 }
@@ -81,6 +72,7 @@ pub fn drawn_lines(
     table: &LevelTable,
     receipt: &Receipt<Total>,
 ) -> Result<String, AllocError>
+    requires { (table_of table.now).levels ≡ (ledger_of histogram.now).levels }
     ensures { IfOk result (λ s. string_bytes s ≡ bin_lines (ledger_of histogram.now) (table_of table.now) ++ figures_line receipt.now) }
 {
     let mut text = bin_lines(heap, histogram, table)?;

@@ -60,10 +60,12 @@ fn answer(heap: Global, levels: u16, most: u16, row: &[u16]) -> Result<String, A
 pub fn report(heap: Global, input: &[u8]) -> Result<String, AllocError>
     ensures { IfOk result (λ text. Reported input.now (string_bytes text)) }
 {
-    if input.len() < 4 || input.len() % 2 == 1 {
+    if input.len() % 2 == 1 {
         return String::from_str(heap, "input short\n");
     }
-    let owned = numbers(heap, input)?;
-    let numbers = owned.as_slice();
-    answer(heap, numbers[0], numbers[1], &numbers[2..])
+    let numbers = numbers(heap, input)?;
+    let [levels, most, row @ ..] = numbers.as_slice() else {
+        return String::from_str(heap, "input short\n");
+    };
+    answer(heap, *levels, *most, row)
 }

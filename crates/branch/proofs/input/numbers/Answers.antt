@@ -1,19 +1,12 @@
--- Each turn appends the next number.
-use Rattle.std.proofs.Common.{◌∙◌, arith}
-use Rattle.std.proofs.lemmas.List.{take_more, take_all}
-use Rattle.branch.specs.Report.{numbers_of}
-use Rattle.branch.proofs.Words.{length_numbers, number_at}
+-- Each pair of bytes makes the next number.
+use Rattle.std.proofs.Common.{◌≡◌, List, ℕ, IfOk, map, length, ◌∙◌, ap, vec_items, rules, w16, ◌/◌}
+use Rattle.std.specs.Int.{from_be_bytes}
+use Rattle.std.proofs.lemmas.Result.{IfOk-weaker}
+use Rattle.std.proofs.iter.runs.Made.{chains}
+use Rattle.branch.proofs.Words.{pairs_are}
 use Rattle.branch.proofs.input.numbers.Goals as goal
-
-pub loop-i-preserved : goal.loop-i-preserved
-loop-i-preserved c =
-    let count = length_numbers c.args.input.now in
-    let more = take_more (numbers_of c.args.input.now) c.loop-i.i 0 (omega arith) in
-    let number = number_at c.args.input.now c.loop-i.i (omega arith) in
-    let items = c.in_ok-push.ensures.items in
-    cc
 
 pub returns : goal.returns
 returns c =
-    let count = length_numbers c.args.input.now in
-    c.loop-i.invariant ∙ take_all c.loop-i.i (numbers_of c.args.input.now) (omega arith)
+    let collected : IfOk c.collect.result (λ v. vec_items v ≡ map (λ (pair : List ℕ). from_be_bytes w16 pair) c.as_chunks.result.0.now) = search (rules, chains) in
+    IfOk-weaker c.collect.result _ _ (λ v items. items ∙ ap (λ (pairs : List (List ℕ)). map (λ (pair : List ℕ). from_be_bytes w16 pair) pairs) c.as_chunks.ensures.front ∙ pairs_are c.args.input.now) collected

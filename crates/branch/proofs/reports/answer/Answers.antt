@@ -1,11 +1,15 @@
 -- The calls and the drawing are those of the report, and so is the text.
 use Rattle.std.proofs.Common.{string_bytes, sym, ◌∙◌}
 use Rattle.std.proofs.lemmas.Result.{IfOk-weaker, IfOk-from_err}
-use Rattle.branch.proofs.Outcomes.{refused_answered, drawn_answered}
+use Rattle.branch.proofs.Outcomes.{refused_answered, same_levels, drawn_answered}
 use Rattle.branch.proofs.reports.answer.Goals as goal
 
 pub returns-in_err-links : goal.returns-in_err-links
 returns-in_err-links c = IfOk-from_err c.from_residual-in_err-links.result _ c.from_residual-in_err-links.ensures.0
+
+pub drawn_lines-requires : goal.drawn_lines-requires
+drawn_lines-requires c =
+    same_levels c.args.levels c.args.most c.args.row c.reduce-drawn.ensures (c.as_mut_slice.ensures.len ∙ c.in_ok-tallies.ensures.len) (c.as_mut_slice-2.ensures.len ∙ c.in_ok-links.ensures.len) c.in-Ok.receipt (sym c.in-Ok.ensures)
 
 pub returns-in-Ok : goal.returns-in-Ok
 returns-in-Ok c =
