@@ -1,6 +1,6 @@
--- The outcome of the calls and the drawing: how it is found answer by answer, and that it is the report's.
-use Rattle.std.proofs.Common.{◌≡◌, ℕ, ◌+◌, ◌<◌, min, List, [], ◌∷◌, ◌++◌, map, length, get_or, drop, Some, None, Ok, Err, Option, Result, sym, refl, ap, ◌∙◌, subst, arith, Bor, MatchOption}
-use Rattle.std.proofs.lemmas.List.{at_drop_more, length-drop, take_all}
+-- The outcome of the calls and the drawing is the report's.
+use Rattle.std.proofs.Common.{◌≡◌, ℕ, min, List, [], ◌∷◌, ◌++◌, map, length, Some, None, Ok, Err, Option, Result, sym, ap, ◌∙◌, subst, arith, Bor, MatchOption}
+use Rattle.std.proofs.lemmas.List.{length-drop, take_all}
 use Rattle.std.proofs.lemmas.Result.{MatchResult-at_ok}
 use Rattle.std.specs.Option.{option_map}
 use Rattle.counting.specs.Ledger.{Ledger, Asked, opened, counted, after, told}
@@ -24,19 +24,6 @@ use Rattle.branch.specs.Outcome.{outcome_of}
 use Rattle.branch.specs.Report.{bin_lines, figures_line, refused_line, first_refusal, Printed, Answered}
 
 module _ {X : Type 0} (drawn : Result X Refusal) where
-  passes : (answer : Answer) (rest : List Answer) → ((e : Refusal) → answer ≡ Refused e → ⊥) → outcome_of (answer ∷ rest) drawn ≡ outcome_of rest drawn
-  passes Done rest accepted = refl
-  passes (Total total) rest accepted = refl
-  passes (Refused e) rest accepted = absurd (accepted e refl)
-
-  -- one answer further on
-  module _ (answers : List Answer) (i : ℕ) (h : i < length answers) where
-    pub outcome_stops : (e : Refusal) → get_or answers i Done ≡ Refused e → outcome_of (drop i answers) drawn ≡ Err e
-    outcome_stops e is = at_drop_more (λ (ahead : List Answer). outcome_of ahead drawn) answers i Done h ∙ ap (λ (a : Answer). outcome_of (a ∷ drop (i + 1) answers) drawn) is
-
-    pub outcome_goes_on : ((e : Refusal) → get_or answers i Done ≡ Refused e → ⊥) → outcome_of (drop i answers) drawn ≡ outcome_of (drop (i + 1) answers) drawn
-    outcome_goes_on accepted = at_drop_more (λ (ahead : List Answer). outcome_of ahead drawn) answers i Done h ∙ passes (get_or answers i Done) (drop (i + 1) answers) accepted
-
   -- a refusal is the first one, where the drawing is refused by the row that fits
   module _ (row : Option Row) (judged : Judged row drawn) where
     pub first_refused : (answers : List Answer) (e : Refusal) → outcome_of answers drawn ≡ Err e → first_refusal (map told_of answers) row ≡ Some (refusal_number e)

@@ -1,5 +1,5 @@
 -- The levels of a bin: where they begin and end, and that they have no more pixels than all levels.
-use Rattle.std.proofs.Common.{◌≡◌, ℕ, zero, suc, ◌+◌, ◌-◌, ◌<◌, ◌≤◌, List, length, get_or, drop, sum, slice_range, ap, add-one, arith}
+use Rattle.std.proofs.Common.{◌≡◌, ℕ, zero, suc, ◌+◌, ◌-◌, ◌<◌, ◌≤◌, List, length, drop, sum, slice_range, ap, add-one, arith}
 use Rattle.std.proofs.lemmas.List.Sums.{sum_by-take-drop, sum_by-take-le}
 use Rattle.tables.specs.Table.{Table, Lawful, bound_of}
 use Rattle.branch.specs.Report.{first_of}

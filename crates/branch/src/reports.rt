@@ -60,12 +60,9 @@ fn answer(heap: Global, levels: u16, most: u16, row: &[u16]) -> Result<String, A
 pub fn report(heap: Global, input: &[u8]) -> Result<String, AllocError>
     ensures { IfOk result (λ text. Reported input.now (string_bytes text)) }
 {
-    if input.len() % 2 == 1 {
-        return String::from_str(heap, "input short\n");
-    }
     let numbers = numbers(heap, input)?;
-    let [levels, most, row @ ..] = numbers.as_slice() else {
-        return String::from_str(heap, "input short\n");
-    };
-    answer(heap, *levels, *most, row)
+    match numbers.as_slice() {
+        [levels, most, row @ ..] if input.len() % 2 == 0 => answer(heap, *levels, *most, row),
+        _ => String::from_str(heap, "input short\n"),
+    }
 }

@@ -1,5 +1,5 @@
 -- Each pair of bytes makes the next number.
-use Rattle.std.proofs.Common.{◌≡◌, List, ℕ, IfOk, map, length, ◌∙◌, ap, vec_items, rules, w16, ◌/◌}
+use Rattle.std.proofs.Common.{◌≡◌, List, ℕ, IfOk, map, ◌∙◌, ap, vec_items, rules, w16}
 use Rattle.std.specs.Int.{from_be_bytes}
 use Rattle.std.proofs.lemmas.Result.{IfOk-weaker}
 use Rattle.std.proofs.iter.runs.Made.{chains}

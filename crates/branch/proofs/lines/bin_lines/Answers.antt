@@ -1,5 +1,6 @@
 -- Each turn appends the line of one bin.
-use Rattle.std.proofs.Common.{arith}
+use Rattle.std.proofs.Common.{◌≡◌, ℕ, length, ap, ◌∙◌, arith}
+use Rattle.std.specs.List.{range_with_len, flat_map}
 use Rattle.counting.specs.Meaning.{ledger_of}
 use Rattle.tables.proofs.Bins.{lawful_table}
 use Rattle.tables.specs.Meaning.{table_of}
@@ -24,3 +25,8 @@ loop-bin-preserved c = record {
       cc;
   begins = next_first (table_of c.args.table.now) c.loop-bin.bin c.bound-first.result c.bound-first.ensures;
 }
+
+pub returns : goal.returns
+returns c =
+    let all : c.loop-bin.bin ≡ length (table_of c.args.table.now).bounds = omega arith in
+    c.loop-bin.invariant.lines ∙ ap (λ (bins : ℕ). flat_map (bin_line (ledger_of c.args.histogram.now) (table_of c.args.table.now)) (range_with_len 0 bins)) all

@@ -9,5 +9,5 @@ use Rattle.branch.proofs.lines.bin_lines.Given as goal
 abbrev pub invariant-loop-bin : goal.invariant-loop-bin
 invariant-loop-bin l = record {
   lines : string_bytes l.text ≡ flat_map (bin_line (ledger_of l.histogram) (table_of l.table)) (range_with_len 0 l.bin);
-  begins : l.first ≡ first_of (table_of l.table) l.bin
+  begins : l.first ≡ first_of (table_of l.table) l.bin;
 }

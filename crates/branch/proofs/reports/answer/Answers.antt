@@ -1,11 +1,8 @@
 -- The calls and the drawing are those of the report, and so is the text.
 use Rattle.std.proofs.Common.{string_bytes, sym, ◌∙◌}
-use Rattle.std.proofs.lemmas.Result.{IfOk-weaker, IfOk-from_err}
+use Rattle.std.proofs.lemmas.Result.{IfOk-weaker}
 use Rattle.branch.proofs.Outcomes.{refused_answered, same_levels, drawn_answered}
 use Rattle.branch.proofs.reports.answer.Goals as goal
-
-pub returns-in_err-links : goal.returns-in_err-links
-returns-in_err-links c = IfOk-from_err c.from_residual-in_err-links.result _ c.from_residual-in_err-links.ensures.0
 
 pub drawn_lines-requires : goal.drawn_lines-requires
 drawn_lines-requires c =
