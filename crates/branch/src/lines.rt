@@ -22,39 +22,6 @@ fn pixels_between(histogram: &Histogram, first: u16, last: u16) -> u32
         .sum()
 }
 
-// The line of a bin whose lowest level is `first`.
-fn bin_line(
-    heap: Global,
-    histogram: &Histogram,
-    table: &LevelTable,
-    bin: u16,
-    first: u16,
-) -> Result<String, AllocError>
-    requires levels { (table_of table.now).levels ≡ (ledger_of histogram.now).levels }
-    requires bin { (bin < length (table_of table.now).bounds) × (first ≡ first_of (table_of table.now) bin) }
-    ensures { IfOk result (λ s. string_bytes s ≡ bin_line (ledger_of histogram.now) (table_of table.now) bin) }
-{
-    let bound = table.bound(bin);
-    let representative = table.representative(bin);
-    let pixels = pixels_between(histogram, first, bound);
-    format!(in heap; "{first} {bound} {representative} {pixels}\n")
-}
-
-// The lines of all bins.
-fn bin_lines(heap: Global, histogram: &Histogram, table: &LevelTable) -> Result<String, AllocError>
-    requires { (table_of table.now).levels ≡ (ledger_of histogram.now).levels }
-    ensures { IfOk result (λ s. string_bytes s ≡ bin_lines (ledger_of histogram.now) (table_of table.now)) }
-{
-    let mut text = String::new(heap);
-    let mut first = 0;
-    for bin in 0..table.bins() {
-        let line = bin_line(heap, histogram, table, bin, first)?;
-        text.push_str(line.as_str())?;
-        first = table.bound(bin) + 1;
-    }
-    Ok(text)
-}
-
 // The line of a drawing's figures.
 fn figures_line(heap: Global, receipt: &Receipt<Total>) -> Result<String, AllocError>
     ensures { IfOk result (λ s. string_bytes s ≡ figures_line receipt.now) }
@@ -65,26 +32,55 @@ fn figures_line(heap: Global, receipt: &Receipt<Total>) -> Result<String, AllocE
     format!(in heap; "tally {tally} priced {priced} compared {compared}\n")
 }
 
-// The lines of a drawing: those of its bins, and that of its figures.
-pub fn drawn_lines(
-    heap: Global,
-    histogram: &Histogram,
-    table: &LevelTable,
-    receipt: &Receipt<Total>,
-) -> Result<String, AllocError>
-    requires { (table_of table.now).levels ≡ (ledger_of histogram.now).levels }
-    ensures { IfOk result (λ s. string_bytes s ≡ bin_lines (ledger_of histogram.now) (table_of table.now) ++ figures_line receipt.now) }
-{
-    let mut text = bin_lines(heap, histogram, table)?;
-    let figures = figures_line(heap, receipt)?;
-    text.push_str(figures.as_str())?;
-    Ok(text)
-}
-
 // The line of a refusal.
 pub fn refused_line(heap: Global, refusal: &Refusal) -> Result<String, AllocError>
     ensures { IfOk result (λ s. string_bytes s ≡ refused_line (refusal_number refusal.now)) }
 {
     let number = refusal.number();
     format!(in heap; "refused {number}\n")
+}
+
+// A table beside the histogram that it was drawn from.
+#[derive(Clone, Copy)]
+pub struct DrawnTable<'a> {
+    pub histogram: &'a Histogram,
+    pub table: &'a LevelTable,
+    ghost levels: { (table_of table.now).levels ≡ (ledger_of histogram.now).levels },
+}
+
+impl DrawnTable<'_> {
+    // The line of a bin whose lowest level is `first`.
+    fn bin_line(&self, heap: Global, bin: u16, first: u16) -> Result<String, AllocError>
+        requires { (bin < length (table_of self.now.table.now).bounds) × (first ≡ first_of (table_of self.now.table.now) bin) }
+        ensures { IfOk result (λ s. string_bytes s ≡ bin_line (ledger_of self.now.histogram.now) (table_of self.now.table.now) bin) }
+    {
+        let bound = self.table.bound(bin);
+        let representative = self.table.representative(bin);
+        let pixels = pixels_between(self.histogram, first, bound);
+        format!(in heap; "{first} {bound} {representative} {pixels}\n")
+    }
+
+    // The lines of all bins.
+    fn bin_lines(&self, heap: Global) -> Result<String, AllocError>
+        ensures { IfOk result (λ s. string_bytes s ≡ bin_lines (ledger_of self.now.histogram.now) (table_of self.now.table.now)) }
+    {
+        let mut text = String::new(heap);
+        let mut first = 0;
+        for bin in 0..self.table.bins() {
+            let line = self.bin_line(heap, bin, first)?;
+            text.push_str(line.as_str())?;
+            first = self.table.bound(bin) + 1;
+        }
+        Ok(text)
+    }
+
+    // The lines of all bins, and that of the drawing's figures.
+    pub fn lines(&self, heap: Global, receipt: &Receipt<Total>) -> Result<String, AllocError>
+        ensures { IfOk result (λ s. string_bytes s ≡ bin_lines (ledger_of self.now.histogram.now) (table_of self.now.table.now) ++ figures_line receipt.now) }
+    {
+        let mut text = self.bin_lines(heap)?;
+        let figures = figures_line(heap, receipt)?;
+        text.push_str(figures.as_str())?;
+        Ok(text)
+    }
 }

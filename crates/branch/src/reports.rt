@@ -5,7 +5,7 @@ ghost use Rattle.branch.specs.Outcome.{outcome_of};
 ghost use Rattle.branch.specs.Report.{Answered, Reported};
 
 use crate::input::numbers;
-use crate::lines::{drawn_lines, refused_line};
+use crate::lines::{DrawnTable, refused_line};
 use counting::{Answer, Call, Histogram};
 use drawing::{Receipt, reduce};
 use pricing::{CentroidPricer, Total};
@@ -51,7 +51,11 @@ fn answer(heap: Global, levels: u16, most: u16, row: &[u16]) -> Result<String, A
         &mut table,
     );
     match outcome(&answers, drawn) {
-        Ok(receipt) => drawn_lines(heap, &histogram, &table, &receipt),
+        Ok(receipt) => DrawnTable {
+            histogram: &histogram,
+            table: &table,
+        }
+        .lines(heap, &receipt),
         Err(refusal) => refused_line(heap, &refusal),
     }
 }

@@ -4,10 +4,10 @@ use Rattle.std.specs.List.{range_with_len, flat_map}
 use Rattle.counting.specs.Meaning.{ledger_of}
 use Rattle.tables.specs.Meaning.{table_of}
 use Rattle.branch.specs.Report.{first_of, bin_line}
-use Rattle.branch.proofs.lines.bin_lines.Given as goal
+use Rattle.branch.proofs.lines.DrawnTable.bin_lines.Given as goal
 
 abbrev pub invariant-loop-bin : goal.invariant-loop-bin
 invariant-loop-bin l = record {
-  lines : string_bytes l.text ≡ flat_map (bin_line (ledger_of l.histogram) (table_of l.table)) (range_with_len 0 l.bin);
-  begins : l.first ≡ first_of (table_of l.table) l.bin;
+  lines : string_bytes l.text ≡ flat_map (bin_line (ledger_of l.self.histogram.now) (table_of l.self.table.now)) (range_with_len 0 l.bin);
+  begins : l.first ≡ first_of (table_of l.self.table.now) l.bin;
 }

@@ -7,12 +7,12 @@ use Rattle.tables.specs.Meaning.{table_of}
 use Rattle.branch.specs.Report.{bin_line}
 use Rattle.branch.proofs.Spans.{bound_below, next_first}
 use Rattle.branch.proofs.Texts.{line_more}
-use Rattle.branch.proofs.lines.bin_lines.Goals as goal
+use Rattle.branch.proofs.lines.DrawnTable.bin_lines.Goals as goal
 
 pub overflow_add-first : goal.overflow_add-first
 overflow_add-first c =
-    let t = table_of c.args.table.now in
-    let law = lawful_table c.args.table.now in
+    let t = table_of c.args.self.now.table.now in
+    let law = lawful_table c.args.self.now.table.now in
     omega (arith, bound_below t law c.loop-bin.bin (omega arith), law.range)
 
 pub loop-bin-preserved : goal.loop-bin-preserved
@@ -21,12 +21,12 @@ loop-bin-preserved c = record {
       let line = c.in_ok-line.ensures in
       let bytes = c.in_ok-push_str.ensures.bytes in
       let value = c.as_str.ensures.value in
-      let more = line_more (bin_line (ledger_of c.args.histogram.now) (table_of c.args.table.now)) c.loop-bin.bin in
+      let more = line_more (bin_line (ledger_of c.args.self.now.histogram.now) (table_of c.args.self.now.table.now)) c.loop-bin.bin in
       cc;
-  begins = next_first (table_of c.args.table.now) c.loop-bin.bin c.bound-first.result c.bound-first.ensures;
+  begins = next_first (table_of c.args.self.now.table.now) c.loop-bin.bin c.bound-first.result c.bound-first.ensures;
 }
 
 pub returns : goal.returns
 returns c =
-    let all : c.loop-bin.bin ≡ length (table_of c.args.table.now).bounds = omega arith in
-    c.loop-bin.invariant.lines ∙ ap (λ (bins : ℕ). flat_map (bin_line (ledger_of c.args.histogram.now) (table_of c.args.table.now)) (range_with_len 0 bins)) all
+    let all : c.loop-bin.bin ≡ length (table_of c.args.self.now.table.now).bounds = omega arith in
+    c.loop-bin.invariant.lines ∙ ap (λ (bins : ℕ). flat_map (bin_line (ledger_of c.args.self.now.histogram.now) (table_of c.args.self.now.table.now)) (range_with_len 0 bins)) all
