@@ -1,8 +1,9 @@
 -- One row more written at its own place of an output.
-use Rattle.std.proofs.Common.{◌≡◌, ℕ, ◌+◌, ◌-◌, ◌*◌, ◌<◌, ◌≤◌, min, List, map, length, get_or, take, drop, None, Ok, Err, Option, Result, sym, refl, ap, ◌∙◌, subst, ap₂, inl, inr, add-mul, one-mul, arith, rules}
+use Rattle.std.proofs.Common.{◌≡◌, ℕ, ◌+◌, ◌-◌, ◌*◌, ◌<◌, ◌≤◌, min, List, map, length, get_or, take, drop, None, Ok, Err, true, false, true≢false, Option, Result, sym, refl, ap, ◌∙◌, subst, ap₂, inl, inr, add-mul, one-mul, arith, rules}
 use borrow.Rule.Slice.PartMut.{put_mid, put_same}
 use Rattle.std.proofs.lemmas.List.{places, length-take, length-drop, length-map, length-append, get_or_append_left, get_or-append_right, get_or-take, get_or-drop, get_or-map}
 use Rattle.std.proofs.lemmas.Option.{none-some}
+use Rattle.std.specs.Result.{is_err}
 use Rattle.std.proofs.lemmas.Bool.{cases_lt, cases_eq}
 use Rattle.refusals.specs.declared.refusal.Refusal.{Refusal}
 use Rattle.counting.specs.Outputs.{Row, row_of as row_of_refusal, over, Wrote}
@@ -33,17 +34,17 @@ module _ {X Y : Type 0} (f : X → Y) (fits : List X → ℕ → Option Row) (wi
   fits_same = ap₂ fits row_is (omega (arith, room, length-take width (drop (i * width) before), length-drop (i * width) before))
 
   -- a refused row: the part is as it was
-  pub stopped_here : (rows : ℕ) → i < rows → (result : Result ℕ Refusal) (refusal : Refusal) → result ≡ Err refusal →
+  pub stopped_here : (rows : ℕ) → i < rows → (result : Result ℕ Refusal) → is_err result ≡ true →
       Wrote (fits row (length (take (e - s) (drop s out)))) (map f row) result (take (e - s) (drop s out)) part → Written f fits rows width scan before (put_mid s (e - s) out part) i
-  stopped_here rows more result refusal is wrote =
-      let refused = subst (λ (r : Result ℕ Refusal). Wrote (fits row (length (take (e - s) (drop s out)))) (map f row) r (take (e - s) (drop s out)) part) is wrote in
-      let back : put_mid s (e - s) out part ≡ out = ap (put_mid s (e - s) out) refused.1 ∙ put_same s (e - s) out in
+  stopped_here rows more (Ok count) is wrote = absurd (true≢false (sym is))
+  stopped_here rows more (Err refusal) is (refused, same) =
+      let back : put_mid s (e - s) out part ≡ out = ap (put_mid s (e - s) out) same ∙ put_same s (e - s) out in
       record {
         within = omega arith;
         cells = λ x y k h. ap (λ (ys : List Y). get_or ys k y) back ∙ w.cells x y k h;
         rest = λ y k h. ap (λ (ys : List Y). get_or ys k y) back ∙ w.rest y k h;
         accepted = w.accepted;
-        stopped = λ _ none. none-some (row_of_refusal refusal) (sym none ∙ sym fits_same ∙ refused.0);
+        stopped = λ _ none. none-some (row_of_refusal refusal) (sym none ∙ sym fits_same ∙ refused);
       }
 
   -- an accepted row
@@ -117,11 +118,10 @@ module _ {X Y : Type 0} (f : X → Y) (fits : List X → ℕ → Option Row) (wi
         ]
       ]
 
-  pub next_row : (result : Result ℕ Refusal) (count : ℕ) → result ≡ Ok count → Wrote (fits row (length (take (e - s) (drop s out)))) (map f row) result (take (e - s) (drop s out)) part →
+  pub next_row : (result : Result ℕ Refusal) → is_err result ≡ false → Wrote (fits row (length (take (e - s) (drop s out)))) (map f row) result (take (e - s) (drop s out)) part →
       Written f fits (i + 1) width scan before (put_mid s (e - s) out part) (i + 1)
-  next_row result count is wrote =
-      let accepted = subst (λ (r : Result ℕ Refusal). Wrote (fits row (length (take (e - s) (drop s out)))) (map f row) r (take (e - s) (drop s out)) part) is wrote in
-      one_more accepted.0 accepted.2
+  next_row (Ok count) is (accepts, _, written) = one_more accepts written
+  next_row (Err refusal) is wrote = absurd (true≢false is)
 
 -- all of the rows
 pub all_rows : {X Y : Type 0} (f : X → Y) (fits : List X → ℕ → Option Row) (rows i width : ℕ) (scan : List X) (before then : List Y) → i ≡ rows → Written f fits i width scan before then i → Written f fits rows width scan before then rows

@@ -4,6 +4,7 @@ ghost use Rattle.counting.specs.Meaning.{ledger_of};
 ghost use Rattle.ffi.specs.Scans.{row_of, scanned};
 
 use counting::Histogram;
+use std::ops::Range;
 
 // A scan: the first `rows` rows of `width` cells that stand one after the other in a list.
 #[derive(Clone, Copy)]
@@ -18,17 +19,16 @@ impl<'a, T> Rows<'a, T> {
     pub(crate) fn row(&self, i: usize) -> &'a [T]
         ensures { result.now ≡ row_of self.now.width self.now.cells.now i }
     {
-        let (from, to) = span(self.cells.len(), self.width, i);
-        &self.cells[from..to]
+        &self.cells[span(self.cells.len(), self.width, i)]
     }
 }
 
-// From where to where row `i` stands in a list of `length` cells, or what there is of it.
-pub(crate) fn span(length: usize, width: usize, i: usize) -> (usize, usize)
-    ensures { (result.0 ≡ min (i * width) length) × (result.1 ≡ min (i * width + width) length) × (result.0 ≤ result.1) × (result.1 ≤ length) }
+// Where row `i` stands in a list of `length` cells, or what there is of it.
+pub(crate) fn span(length: usize, width: usize, i: usize) -> Range<usize>
+    ensures { (result.start ≡ min (i * width) length) × (result.end ≡ min (i * width + width) length) × (result.start ≤ result.end) × (result.end ≤ length) }
 {
-    let from = i.saturating_mul(width).min(length);
-    (from, from.saturating_add(width).min(length))
+    let start = i.saturating_mul(width).min(length);
+    start..start.saturating_add(width).min(length)
 }
 
 // The histogram of `levels` levels and the scan's rows; a refused call alters nothing.

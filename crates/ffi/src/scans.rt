@@ -38,8 +38,8 @@ fn write_rows<A, B, F: Fn(&[A], &mut [B]) -> Result<usize, Refusal>>(
         → Written f fits scan.entry.rows scan.entry.width scan.entry.cells.now out.old out.new result }
 {
     for i in 0..scan.rows {
-        let (from, to) = span(out.len(), scan.width, i);
-        if let Err(_) = write(scan.row(i), &mut out[from..to]) {
+        let place = span(out.len(), scan.width, i);
+        if write(scan.row(i), &mut out[place]).is_err() {
             return i;
         }
     }
