@@ -66,6 +66,7 @@ impl DrawnTable<'_> {
     {
         let mut text = String::new(heap);
         let mut first = 0;
+        // By number: a table gives its bounds and representatives one by one.
         for bin in 0..self.table.bins() {
             let line = self.bin_line(heap, bin, first)?;
             text.push_str(line.as_str())?;

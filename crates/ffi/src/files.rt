@@ -28,7 +28,7 @@ pub fn slip_write(at: &[u32], bounds: &[u16], representatives: &[u16], out: &mut
 }
 
 // Reads a file, and writes the pixels at each level and each bin's bound and representative; gives 0, or the number of the
-// refusal.
+// refusal, since C knows no `Result`.
 pub fn slip_read(
     file: &[u8],
     at: &mut [u32],

@@ -37,6 +37,7 @@ fn write_rows<A, B, F: Fn(&[A], &mut [B]) -> Result<usize, Refusal>>(
         → ((row : _) (part : _) (written : _) (left : _) → F.post write row part written left → Wrote (fits row.now (length part.now)) (map f row.now) written part.now left.now)
         → Written f fits scan.entry.rows scan.entry.width scan.entry.cells.now out.old out.new result }
 {
+    // By place: of what is written through `chunks_mut` a proof knows nothing.
     for i in 0..scan.rows {
         let place = span(out.len(), scan.width, i);
         if write(scan.row(i), &mut out[place]).is_err() {

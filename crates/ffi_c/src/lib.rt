@@ -1,5 +1,5 @@
-// The static library for C: each function of `ffi` under the same name and with the same clauses. No call requires anything of its
-// arguments.
+// The static library for C: each function of `ffi` under the same name and with the same clauses, since such a library exports only
+// functions of its own. No call requires anything of its arguments.
 #![tactic(auto)]
 
 mod drawings;
