@@ -7,11 +7,9 @@ use Rattle.counting.specs.Ledger.{Ledger, Asked, opened, counted, after, told}
 use Rattle.counting.specs.Meaning.{ledger_of}
 use Rattle.counting.specs.Outputs.{Row, Judged}
 use Rattle.refusals.specs.Refusals.{refusal_number}
-use Rattle.counting.specs.Runs.{told_of}
+use Rattle.counting.specs.Runs.{Answer, told_of}
 use Rattle.counting.specs.declared.histogram.Histogram.{Histogram}
 use Rattle.refusals.specs.declared.refusal.Refusal.{Refusal}
-use Rattle.counting.specs.declared.run.Answer.{Answer}
-use Rattle.counting.specs.declared.run.Answer.TheVariants.{Done, Total, Refused}
 use Rattle.counting.specs.declared.run.Call.TheVariants.{Open, Count}
 use Rattle.pricing.specs.Kinds.{total_ops}
 use Rattle.pricing.specs.Measures.{squared}
@@ -28,20 +26,20 @@ module _ {X : Type 0} (drawn : Result X Refusal) where
   module _ (row : Option Row) (judged : Judged row drawn) where
     pub first_refused : (answers : List Answer) (e : Refusal) → outcome_of answers drawn ≡ Err e → first_refusal (map told_of answers) row ≡ Some (refusal_number e)
     first_refused [] e is = ap (option_map (λ (r : Row). r.0)) (subst (Judged row) is judged)
-    first_refused (Done ∷ answers) e is = first_refused answers e is
-    first_refused (Total total ∷ answers) e is = first_refused answers e is
-    first_refused (Refused refusal ∷ answers) e is = let same : refusal ≡ e = cc in ap (λ (r : Refusal). Some (refusal_number r)) same
+    first_refused (Ok None ∷ answers) e is = first_refused answers e is
+    first_refused (Ok (Some total) ∷ answers) e is = first_refused answers e is
+    first_refused (Err refusal ∷ answers) e is = let same : refusal ≡ e = cc in ap (λ (r : Refusal). Some (refusal_number r)) same
 
     pub none_refused : (answers : List Answer) (x : X) → outcome_of answers drawn ≡ Ok x → (drawn ≡ Ok x) × (first_refusal (map told_of answers) row ≡ None)
     none_refused [] x is = (is, ap (option_map (λ (r : Row). r.0)) (subst (Judged row) is judged))
-    none_refused (Done ∷ answers) x is = none_refused answers x is
-    none_refused (Total total ∷ answers) x is = none_refused answers x is
-    none_refused (Refused refusal ∷ answers) x is = let no : ◌≡◌ {A = ℕ} 0 1 = cc in absurd (omega arith)
+    none_refused (Ok None ∷ answers) x is = none_refused answers x is
+    none_refused (Ok (Some total) ∷ answers) x is = none_refused answers x is
+    none_refused (Err refusal ∷ answers) x is = let no : ◌≡◌ {A = ℕ} 0 1 = cc in absurd (omega arith)
 
 -- The calls that the report makes, and the drawing after them.
 module _ {P : Type 0} (levels most : ℕ) (row : Bor (List ℕ)) {answers : List Answer} {place : Histogram} {result : Result (Receipt Sum) Refusal}
     {pricer pricer' : P} {tallies tallies' : List Sum} {links links' : List ℕ} {table table' : LevelTable}
-    (run : Reduced total_ops (λ (p : P). squared) (Open levels ∷ Count row ∷ []) (Done ∷ Done ∷ []) answers place most result pricer pricer' tallies tallies' links links' table table')
+    (run : Reduced total_ops (λ (p : P). squared) (Open levels ∷ Count row ∷ []) (Ok None ∷ Ok None ∷ []) answers place most result pricer pricer' tallies tallies' links links' table table')
     (wide : length tallies ≡ 4096) (long : length links ≡ 4096) where
   abbrev calls : List Asked
   calls = opened levels ∷ counted row.now ∷ []

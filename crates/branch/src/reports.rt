@@ -24,9 +24,7 @@ fn outcome(
     ensures { result ≡ outcome_of answers.now drawn }
 {
     for answer in answers {
-        if let Answer::Refused(refusal) = answer {
-            return Err(*refusal);
-        }
+        (*answer)?;
     }
     drawn
 }
@@ -37,7 +35,7 @@ fn answer(heap: Global, levels: u16, most: u16, row: &[u16]) -> Result<String, A
 {
     let mut tallies = vec![in heap; Total { sum: 0 }; CELLS]?;
     let mut links = vec![in heap; 0; CELLS]?;
-    let mut answers = [Answer::Done; 2];
+    let mut answers = [Ok(None); 2];
     let mut histogram = Histogram::fresh();
     let mut table = LevelTable::fresh();
     let drawn = reduce(

@@ -2,10 +2,9 @@
 use Rattle.std.specs.Prelude.{◌≡◌, ℕ, ◌*◌, ◌<◌, ◌≤◌, min, cond, ◌&&◌, List, [], ◌∷◌, length, IfOk, IfErr, Some, None, Option, Result, ◌==◌, nat_le, nat_lt}
 use Rattle.counting.specs.Ledger.{Ledger, total_of, counted_levels, after}
 use Rattle.counting.specs.Outputs.{Row, Judged}
-use Rattle.counting.specs.Runs.{performed, Replayed}
+use Rattle.counting.specs.Runs.{Answer, performed, Replayed}
 use Rattle.counting.specs.declared.histogram.Histogram.{Histogram}
 use Rattle.refusals.specs.declared.refusal.Refusal.{Refusal}
-use Rattle.counting.specs.declared.run.Answer.{Answer}
 use Rattle.counting.specs.declared.run.Call.{Call}
 use Rattle.pricing.specs.Tallies.{Ops, NotAbove}
 use Rattle.pricing.specs.Errors.{Fair, SameErrors}
