@@ -1,8 +1,12 @@
 -- How many pixels samples give, and which: the facts that the code of a scan goes by.
-use Rattle.std.proofs.Common.{◌≡◌, ℕ, zero, suc, ◌+◌, ◌-◌, ◌*◌, ◌/◌, ◌<◌, ◌≤◌, true, false, leb, List, [], ◌∷◌, length, get_or, take, drop, sym, refl, ap, ◌∙◌, ⊎_elim, mul_comm, arith}
+use Rattle.std.proofs.Common.{◌≡◌, ℕ, zero, suc, ◌+◌, ◌-◌, ◌*◌, ◌/◌, ◌<◌, ◌≤◌, true, leb, nat_le, List, [], ◌∷◌, map, length, get_or, take, drop, sym, refl, ⊎_elim, mul_comm, arith, w16}
 use Rattle.std.proofs.lemmas.Nat.{mul-add-lt, mul-le}
-use Rattle.std.proofs.lemmas.List.{at_drop_more, drop_all, get_or-drop, get_or-take, length-drop, length-take, take_all}
-use Rattle.std.proofs.lemmas.Bool.{and_parts, cases_lt, leb-true, lt-ltb, le-ltb, le-leb, lt-leb}
+use Rattle.std.proofs.lemmas.List.{drop_all, get_or-drop, get_or-take, length-drop, length-take, take_all}
+use Rattle.std.proofs.lemmas.Bool.{and_parts, cases_lt, leb-true, lt-ltb, le-ltb}
+use Rattle.std.proofs.lemmas.List.Folds.{list_all-map}
+use Rattle.std.specs.Int.{from_be_bytes}
+use Rattle.std.specs.List.{list_all}
+use Rattle.std.specs.Simd.{first_chunks}
 use Rattle.scans.specs.Raster.{sample_size, pairs, pixels_of, row_of, within}
 
 pub length_pairs : (bs : List ℕ) → length (pairs bs) ≡ length bs / 2
@@ -10,43 +14,21 @@ length_pairs [] = refl
 length_pairs (b ∷ []) = refl
 length_pairs (high ∷ low ∷ bs) = let rest = length_pairs bs in omega arith
 
-pub getD_pairs : (bs : List ℕ) (i : ℕ) → i < length (pairs bs) → get_or (pairs bs) i 0 ≡ get_or bs (2 * i) 0 * 256 + get_or bs (2 * i + 1) 0
-getD_pairs [] i h = omega arith
-getD_pairs (b ∷ []) i h = omega arith
-getD_pairs (high ∷ low ∷ bs) zero h = omega arith
-getD_pairs (high ∷ low ∷ bs) (suc i) h =
-    let even : 2 * suc i ≡ suc (suc (2 * i)) = omega arith in
-    let odd : suc (suc (2 * i)) + 1 ≡ suc (suc (2 * i + 1)) = omega arith in
-    rw (even, odd) (getD_pairs bs i (omega arith))
+-- the samples of two bytes are the pairs
+pub pairs_are : (bs : List ℕ) → map (from_be_bytes w16) (first_chunks 2 (length bs / 2) bs) ≡ pairs bs
+pairs_are [] = refl
+pairs_are (b ∷ []) = refl
+pairs_are (high ∷ low ∷ bs) =
+    let count : length (high ∷ low ∷ bs) / 2 ≡ suc (length bs / 2) = omega arith in
+    let pixel : from_be_bytes w16 (high ∷ low ∷ []) ≡ 256 * high + low = omega arith in
+    rw count (rw (pairs_are bs, pixel))
 
-module _ (m : ℕ) (bs : List ℕ) where
-  pub pixels_narrow : m < 256 → pixels_of m bs ≡ bs
-  pixels_narrow h = rw (lt-ltb m 256 h)
+module _ (m : ℕ) (bs : List ℕ) (wide : 256 ≤ m) where
+  pub wide_pixels : map (from_be_bytes w16) (first_chunks 2 (length bs / 2) bs) ≡ pixels_of m bs
+  wide_pixels = rw (le-ltb m 256 wide) (pairs_are bs)
 
-  pub pixels_wide : 256 ≤ m → pixels_of m bs ≡ pairs bs
-  pixels_wide h = rw (le-ltb m 256 h)
-
-  pub length_pixels : length (pixels_of m bs) ≡ length bs / sample_size m
-  length_pixels =
-      ⊎_elim (λ narrow. rw (lt-ltb m 256 narrow) (omega arith)) (λ wide. rw (le-ltb m 256 wide) (length_pairs bs)) (cases_lt m 256)
-
-  pub count_is : (n : ℕ) → n ≡ sample_size m → length bs / n ≡ length (pixels_of m bs)
-  count_is n e = ap (λ k. length bs / k) e ∙ sym length_pixels
-
-  -- the two bytes of a sample lie within the samples, and are its pixel
-  pub both_within : (i : ℕ) → 256 ≤ m → i < length (pixels_of m bs) → 2 * i + 1 < length bs
-  both_within i wide h = let n = length_pairs bs in let k = rw (pixels_wide wide) at h in omega arith
-
-  pub both_are : (i : ℕ) → 256 ≤ m → i < length (pixels_of m bs) → get_or bs (2 * i) 0 * 256 + get_or bs (2 * i + 1) 0 ≡ get_or (pixels_of m bs) i 0
-  both_are i wide h = let k = rw (pixels_wide wide) at h in rw (pixels_wide wide) (sym (getD_pairs bs i k))
-
--- one pixel further on
-module _ (m : ℕ) (ps : List ℕ) (i : ℕ) (h : i < length ps) where
-  pub within_step : get_or ps i 0 ≤ m → within m (drop i ps) ≡ within m (drop (i + 1) ps)
-  within_step le = at_drop_more (within m) ps i 0 h ∙ rw (le-leb (get_or ps i 0) m le)
-
-  pub within_stop : m < get_or ps i 0 → within m (drop i ps) ≡ false
-  within_stop lt = at_drop_more (within m) ps i 0 h ∙ rw (lt-leb (get_or ps i 0) m lt)
+  pub wide_within : list_all (λ sample. nat_le (from_be_bytes w16 sample) m) (first_chunks 2 (length bs / 2) bs) ≡ within m (pixels_of m bs)
+  wide_within = rw (← wide_pixels) (sym (list_all-map (λ p. nat_le p m) (from_be_bytes w16) (first_chunks 2 (length bs / 2) bs)))
 
 -- where no pixel is above m, none at any place is
 pub within_at : (m : ℕ) (ps : List ℕ) → within m ps ≡ true → (i : ℕ) → i < length ps → get_or ps i 0 ≤ m

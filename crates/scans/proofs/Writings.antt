@@ -10,6 +10,7 @@ use Rattle.scans.specs.declared.pgm.Field.TheVariants.{Width, Height, Maximum}
 use Rattle.scans.specs.declared.pgm.Fault.TheVariants.{NotP5, NumberMissing, NumberTooLarge, NoSeparator}
 use Rattle.scans.specs.Grammar.{Gap, nothing, space, comment, Number, File}
 use Rattle.scans.specs.Pgm.{white, line_end, gap, gap_from, digits, after_gap, number, after_number, refuse, number_fault, magic_fault, range_fault, header_fault, raster_fault, fault, width_of, height_of, maximum_of, width_part, height_part, maximum_part, after_header}
+use Rattle.scans.proofs.Headers.{all_digits}
 use Rattle.scans.proofs.Faults.{none_parts, not_refused, ranges, samples_fine}
 
 -- What is left of a gap, from inside a comment on.
@@ -52,14 +53,6 @@ part_written true (b ∷ bs) h =
     let rest = part_written (not (line_end b)) bs (omega arith) in
     rw one-add (longer b (take (gap_from (not (line_end b)) bs) bs) (line_end b) refl rest)
 part_written false (b ∷ bs) h = fronted b bs h (part_written true bs) (part_written false bs) (eqb b 35) refl (white b) refl
-
-digits_more : (b : ℕ) (bs : List ℕ) (t : Bool) → is_ascii_digit b ≡ t → AllByRecursion (λ d. is_ascii_digit d ≡ true) (digits bs) → AllByRecursion (λ d. is_ascii_digit d ≡ true) (digits (b ∷ bs))
-digits_more b bs true e all = rw (e, one-add) (e, all)
-digits_more b bs false e all = rw e tt
-
-all_digits : (bs : List ℕ) → AllByRecursion (λ d. is_ascii_digit d ≡ true) (digits bs)
-all_digits [] = tt
-all_digits (b ∷ bs) = digits_more b bs (is_ascii_digit b) refl (all_digits bs)
 
 -- A number with no fault is written as one.
 module _ (x : Field) (bs : List ℕ) (fine : number_fault x bs ≡ None) where

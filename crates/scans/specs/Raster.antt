@@ -1,5 +1,6 @@
 -- What the samples of a grey scan say: its pixels, and the pixels of one row.
-use Rattle.std.specs.Prelude.{ℕ, ◌+◌, ◌*◌, Bool, true, cond, ◌&&◌, List, [], ◌∷◌, take, drop, nat_le, nat_lt}
+use Rattle.std.specs.Prelude.{ℕ, ◌+◌, ◌*◌, Bool, cond, List, [], ◌∷◌, take, drop, nat_le, nat_lt}
+use Rattle.std.specs.List.{list_all}
 
 -- How many bytes one sample takes: one where the maximum value is below 256, else two.
 abbrev pub sample_size : ℕ → ℕ
@@ -21,5 +22,4 @@ row_of w ps y = take w (drop (y * w) ps)
 
 -- No pixel is above m.
 abbrev pub within : ℕ → List ℕ → Bool
-within m [] = true
-within m (p ∷ ps) = nat_le p m && within m ps
+within m ps = list_all (λ p. nat_le p m) ps

@@ -1,6 +1,7 @@
 // Grey scans in memory, and how one is read from a PGM file.
 #![tactic(auto)]
 
+mod header;
 mod pgm;
 mod raster;
 mod scan;

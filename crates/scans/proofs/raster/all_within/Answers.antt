@@ -1,24 +1,15 @@
--- Each turn takes one pixel off what is ahead, and stops at one above the maximum value.
-use Rattle.std.proofs.Common.{sym, ◌∙◌, arith}
-use Rattle.std.proofs.lemmas.List.{at_drop_all}
-use Rattle.scans.specs.Raster.{pixels_of, within}
-use Rattle.scans.proofs.Rasters.{count_is, within_step, within_stop}
+-- Samples of two bytes: the chain tests each pair, and those are the pixels.
+use Rattle.std.proofs.Common.{◌/◌, length, nat_le, ◌∙◌, rules, w16}
+use Rattle.std.proofs.lemmas.Iterator.{YieldsList-from_slice}
+use Rattle.std.proofs.lemmas.Iterator.Search.{all_from_yields_List}
+use Rattle.std.specs.Int.{from_be_bytes}
+use Rattle.std.specs.Simd.{first_chunks}
+use Rattle.scans.proofs.Rasters.{wide_within}
 use Rattle.scans.proofs.raster.all_within.Goals as goal
+use borrow.Author.Tests.{tests}
 
-pub pixel_at-requires : goal.pixel_at-requires
-pixel_at-requires c = let count = count_is c.args.maximum c.args.samples.now c.bytes_per_sample.result c.bytes_per_sample.ensures in omega arith
-
-pub returns-then-pixel_at-maximum : goal.returns-then-pixel_at-maximum
-returns-then-pixel_at-maximum c =
-    let count = count_is c.args.maximum c.args.samples.now c.bytes_per_sample.result c.bytes_per_sample.ensures in
-    sym (within_stop c.args.maximum (pixels_of c.args.maximum c.args.samples.now) c.loop-i.i (omega arith) (omega arith)) ∙ c.loop-i.invariant
-
-pub loop-i-preserved : goal.loop-i-preserved
-loop-i-preserved c =
-    let count = count_is c.args.maximum c.args.samples.now c.bytes_per_sample.result c.bytes_per_sample.ensures in
-    sym (within_step c.args.maximum (pixels_of c.args.maximum c.args.samples.now) c.loop-i.i (omega arith) (omega arith)) ∙ c.loop-i.invariant
-
-pub returns : goal.returns
-returns c =
-    let count = count_is c.args.maximum c.args.samples.now c.bytes_per_sample.result c.bytes_per_sample.ensures in
-    sym (at_drop_all (within c.args.maximum) (pixels_of c.args.maximum c.args.samples.now) c.loop-i.i (omega arith)) ∙ c.loop-i.invariant
+pub returns-else-maximum-lt256 : goal.returns-else-maximum-lt256
+returns-else-maximum-lt256 c =
+    let samples = c.args.samples.now in
+    all_from_yields_List (λ sample. nat_le (from_be_bytes w16 sample) c.args.maximum) _ _ _ c.all-else-maximum-lt256.ensures.ran (YieldsList-from_slice (first_chunks 2 (length samples / 2) samples) cc) (λ x b q k. search (rules, tests))
+    ∙ wide_within c.args.maximum samples c.if-maximum-lt256.false
