@@ -1,7 +1,6 @@
--- The steps of the loops that read a header: a gap and a number, one byte further on.
-use Rattle.std.proofs.Common.{◌≡◌, ℕ, ◌+◌, ◌<◌, ◌≤◌, Bool, true, false, cond, not, eqb, List, [], ◌∷◌, length, get_or, drop, refl, ◌∙◌, one-add, arith}
-use Rattle.std.proofs.lemmas.List.{at_drop_more}
-use Rattle.std.proofs.lemmas.Bool.{eq-eqb, ne_eqb, cond_both}
+-- A gap lies within the bytes, and the digits in front are digits.
+use Rattle.std.proofs.Common.{◌≡◌, ℕ, ◌+◌, ◌≤◌, Bool, true, false, cond, not, eqb, List, [], ◌∷◌, length, refl, one-add, arith}
+use Rattle.std.proofs.lemmas.Bool.{cond_both}
 use Rattle.std.specs.Char.{is_ascii_digit}
 use Rattle.std.specs.List.{AllByRecursion}
 use Rattle.scans.specs.Pgm.{white, line_end, gap_from, digits}
@@ -28,17 +27,3 @@ digits_more b bs false e all = rw e tt
 pub all_digits : (bs : List ℕ) → AllByRecursion (λ d. is_ascii_digit d ≡ true) (digits bs)
 all_digits [] = tt
 all_digits (b ∷ bs) = digits_more b bs (is_ascii_digit b) refl (all_digits bs)
-
-module _ (bs : List ℕ) (i : ℕ) (h : i < length bs) where
-  -- a byte of a comment, which goes on unless the byte ends the line
-  pub in_comment : gap_from true (drop i bs) ≡ 1 + gap_from (not (line_end (get_or bs i 0))) (drop (i + 1) bs)
-  in_comment = at_drop_more (gap_from true) bs i 0 h
-
-  pub at_hash : get_or bs i 0 ≡ 35 → gap_from false (drop i bs) ≡ 1 + gap_from true (drop (i + 1) bs)
-  at_hash e = at_drop_more (gap_from false) bs i 0 h ∙ rw (eq-eqb (get_or bs i 0) 35 e)
-
-  pub at_white : (get_or bs i 0 ≡ 35 → ⊥) → white (get_or bs i 0) ≡ true → gap_from false (drop i bs) ≡ 1 + gap_from false (drop (i + 1) bs)
-  at_white n e = at_drop_more (gap_from false) bs i 0 h ∙ rw (ne_eqb (get_or bs i 0) 35 n, e)
-
-  pub at_other : (get_or bs i 0 ≡ 35 → ⊥) → white (get_or bs i 0) ≡ false → gap_from false (drop i bs) ≡ 0
-  at_other n e = at_drop_more (gap_from false) bs i 0 h ∙ rw (ne_eqb (get_or bs i 0) 35 n, e)

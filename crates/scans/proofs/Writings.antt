@@ -1,17 +1,17 @@
 -- A file that has no fault follows the grammar: its parts are written as a header and a raster are.
-use Rattle.std.proofs.Common.{◌≡◌, ℕ, ◌<◌, ◌≤◌, Bool, true, false, not, ◌&&◌, ◌||◌, eqb, ltb, List, [], ◌∷◌, ◌++◌, length, get_or, take, drop, None, sym, refl, ap, ◌∙◌, one-add, arith}
+use Rattle.std.proofs.Common.{◌≡◌, ℕ, ◌<◌, ◌≤◌, Bool, true, false, not, eqb, List, [], ◌∷◌, ◌++◌, length, get_or, take, drop, None, sym, refl, ap, ◌∙◌, one-add, arith}
 use Rattle.std.proofs.lemmas.List.{append_assoc, take-append-drop, length-drop, length-take-le}
 use Rattle.std.proofs.lemmas.List.Sums.{prefix_len-le-length}
-use Rattle.std.proofs.lemmas.Bool.{and_parts, eqb-false, eqb-true, ltb-false, not-false, or_parts}
+use Rattle.std.proofs.lemmas.Bool.{eqb-true}
+use Rattle.std.proofs.lemmas.Bool.Decides.{nat_tests}
 use Rattle.std.specs.Char.{is_ascii_digit}
 use Rattle.std.specs.List.{prefix_len, AllByRecursion}
 use Rattle.scans.specs.declared.pgm.Field.{Field}
 use Rattle.scans.specs.declared.pgm.Field.TheVariants.{Width, Height, Maximum}
-use Rattle.scans.specs.declared.pgm.Fault.TheVariants.{NotP5, NumberMissing, NumberTooLarge, NoSeparator}
 use Rattle.scans.specs.Grammar.{Gap, nothing, space, comment, Number, File}
-use Rattle.scans.specs.Pgm.{white, line_end, gap, gap_from, digits, after_gap, number, after_number, refuse, number_fault, magic_fault, range_fault, header_fault, raster_fault, fault, width_of, height_of, maximum_of, width_part, height_part, maximum_part, after_header}
+use Rattle.scans.specs.Pgm.{white, line_end, gap, gap_from, digits, after_gap, number, after_number, number_fault, magic_fault, range_fault, header_fault, raster_fault, fault, width_of, height_of, maximum_of, width_part, height_part, maximum_part, after_header}
 use Rattle.scans.proofs.Headers.{all_digits}
-use Rattle.scans.proofs.Faults.{none_parts, not_refused, ranges, samples_fine}
+use Rattle.scans.proofs.Faults.{none_parts, ranges, samples_fine}
 
 -- What is left of a gap, from inside a comment on.
 record Commented (cs : List ℕ) : Type 0 where
@@ -57,11 +57,7 @@ part_written false (b ∷ bs) h = fronted b bs h (part_written true bs) (part_wr
 -- A number with no fault is written as one.
 module _ (x : Field) (bs : List ℕ) (fine : number_fault x bs ≡ None) where
   no_number_fault : (gap bs ≡ 0 → ⊥) × (prefix_len is_ascii_digit (after_gap bs) ≡ 0 → ⊥) × (number bs ≤ 65535)
-  no_number_fault =
-      let there = none_parts (refuse (eqb (gap bs) 0 || eqb (prefix_len is_ascii_digit (after_gap bs)) 0) (NumberMissing x)) _ fine in
-      let small = none_parts (refuse (ltb 65535 (number bs)) (NumberTooLarge x)) [] there.1 in
-      let both = or_parts (eqb (gap bs) 0) (eqb (prefix_len is_ascii_digit (after_gap bs)) 0) (not_refused _ _ there.0) in
-      (eqb-false (gap bs) 0 both.0, eqb-false (prefix_len is_ascii_digit (after_gap bs)) 0 both.1, ltb-false 65535 (number bs) (not_refused _ _ small.0))
+  no_number_fault = (grind (arith, nat_tests), grind (arith, nat_tests), grind (arith, nat_tests))
 
   number_written : Number (number bs) (take (gap bs) bs ++ digits (after_gap bs))
   number_written =
@@ -89,10 +85,13 @@ module _ (x : Field) (bs : List ℕ) (fine : number_fault x bs ≡ None) where
       ∙ (ap (λ t. take (gap bs) bs ++ t) (take-append-drop (prefix_len is_ascii_digit (after_gap bs)) (after_gap bs))
       ∙ take-append-drop (gap bs) bs))
 
-magic_written : (bs : List ℕ) → eqb (get_or bs 0 0) 80 ≡ true → eqb (get_or bs 1 0) 53 ≡ true → bs ≡ 80 ∷ 53 ∷ width_part bs
-magic_written [] p q = absurd (let e = eqb-true (get_or {A = ℕ} [] 0 0) 80 p in omega arith)
-magic_written (a ∷ []) p q = absurd (let e = eqb-true (get_or (a ∷ []) 1 0) 53 q in omega arith)
-magic_written (a ∷ b ∷ bs) p q = rw (eqb-true a 80 p, eqb-true b 53 q)
+magic_written : (bs : List ℕ) → magic_fault bs ≡ None → bs ≡ 80 ∷ 53 ∷ width_part bs
+magic_written [] e = cc
+magic_written (a ∷ []) e = grind (arith, nat_tests)
+magic_written (a ∷ b ∷ bs) e =
+    let p : a ≡ 80 = grind (arith, nat_tests) in
+    let five : b ≡ 53 = grind (arith, nat_tests) in
+    rw (p, five)
 
 separator_written : (bs : List ℕ) → white (get_or bs 0 0) ≡ true → bs ≡ get_or bs 0 0 ∷ drop 1 bs
 separator_written [] p = cc
@@ -108,8 +107,7 @@ file_written bs fine =
     let at_height = none_parts (number_fault Height (height_part bs)) _ at_width.1 in
     let at_maximum = none_parts (number_fault Maximum (maximum_part bs)) _ at_height.1 in
     let sizes = ranges (width_of bs) (height_of bs) (maximum_of bs) (none_parts (range_fault (width_of bs) (height_of bs) (maximum_of bs)) [] at_maximum.1).0 in
-    let p5 = and_parts (eqb (get_or bs 0 0) 80) (eqb (get_or bs 1 0) 53) (not-false (eqb (get_or bs 0 0) 80 && eqb (get_or bs 1 0) 53) (not_refused _ NotP5 magic.0)) in
-    let separated = not-false (white (get_or (after_header bs) 0 0)) (not_refused _ NoSeparator (none_parts (refuse (not (white (get_or (after_header bs) 0 0))) NoSeparator) _ raster).0) in
+    let separated : white (get_or (after_header bs) 0 0) ≡ true = grind (arith, nat_tests, raster) in
     let samples = samples_fine (width_of bs) (height_of bs) (maximum_of bs) (after_header bs) raster in
     record {
       width_bytes = take (gap (width_part bs)) (width_part bs) ++ digits (after_gap (width_part bs));
@@ -121,7 +119,7 @@ file_written bs fine =
       maximum_number = number_written Maximum (maximum_part bs) at_maximum.0;
       separated = separated;
       bytes =
-          magic_written bs p5.0 p5.1
+          magic_written bs magic.0
           ∙ ap (λ t. 80 ∷ 53 ∷ t)
           (number_parts Width (width_part bs) at_width.0
           ∙ ap (λ t. (take (gap (width_part bs)) (width_part bs) ++ digits (after_gap (width_part bs))) ++ t)

@@ -1,6 +1,9 @@
 // A grey scan in memory, and its rows.
 ghost use Rattle.std.specs.Prelude.{◌≡◌, ℕ, ◌*◌, ◌<◌, ◌≤◌, true, length, vec_len, slice_index};
+ghost use Rattle.std.specs.Slice.Iter.{chunks_exact_rest, chunks_exact_size};
 ghost use Rattle.scans.specs.Raster.{row_of, within};
+
+use std::slice::ChunksExact;
 
 /// A grey scan: its size in pixels, the maximum value of a pixel, and the pixels, row after row from the upper left corner on.
 #[derive(Drop)]
@@ -18,6 +21,15 @@ pub struct Scan {
 }
 
 impl Scan {
+    /// The rows, from the top down.
+    pub fn rows(&self) -> ChunksExact<'_, u16>
+        ensures pixels { chunks_exact_rest result ≡ self.now.pixels.items }
+        ensures width { chunks_exact_size result ≡ self.now.width }
+        ensures height { length (chunks_exact_rest result) ≡ self.now.width * self.now.height }
+    {
+        self.pixels.chunks_exact(usize::from(self.width))
+    }
+
     /// The pixels of the row `y`, from left to right. A row past the last has none.
     pub fn row(&self, y: u16) -> &[u16]
         ensures value { result.now ≡ row_of self.now.width self.now.pixels.items y }

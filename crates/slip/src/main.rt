@@ -8,6 +8,7 @@ mod tell;
 
 use std::io::{BufReader, Read};
 use std::{env, fs, io};
+use tell::Stop;
 
 // In how many greys the slip is stored where no number is given.
 const GREYS: u16 = 16;
@@ -20,20 +21,15 @@ struct Words {
 }
 
 fn asked_for(rt: &HostRuntime) -> io::Result<Words> {
-    let mut greys = GREYS;
-    let mut words = env::args(rt)?.skip(1);
-    let mut first = words.next();
-    if let Some(word) = &first {
-        if let Ok(number) = word.as_str().parse::<u16>() {
-            greys = number;
-            first = words.next();
-        }
+    let mut words = env::args(rt)?.skip(1).peekable();
+    let greys = words.peek().and_then(|word| word.as_str().parse().ok());
+    if greys.is_some() {
+        words.next();
     }
-    let files = match (first, words.next()) {
-        (Some(table), Some(picture)) => Some((table, picture)),
-        _ => None,
-    };
-    Ok(Words { greys, files })
+    Ok(Words {
+        greys: greys.unwrap_or(GREYS),
+        files: words.next().zip(words.next()),
+    })
 }
 
 fn main(rt: HostRuntime) -> io::Result<()> {
@@ -45,8 +41,10 @@ fn main(rt: HostRuntime) -> io::Result<()> {
         Err(fault) => return println!(rt; "no scan: {fault}"),
     };
     let wanted = asked_for(&rt)?;
-    let Some(made) = tell::slip(&rt, &scan, wanted.greys)? else {
-        return Ok(());
+    let made = match tell::slip(&rt, &scan, wanted.greys) {
+        Ok(made) => made,
+        Err(Stop::Failed(error)) => return Err(error),
+        Err(refused) => return println!(rt; "{refused}"),
     };
     if let Some((table, picture)) = wanted.files {
         fs::write(&rt, table.as_str(), made.table_file.as_slice())?;

@@ -13,13 +13,14 @@ pub struct Shown {
     pub farthest: u16,
 }
 
-/// The largest difference of two rows, place by place.
-fn farthest(row: &[u16], greys: &[u16]) -> u16 {
-    let mut most = 0;
-    for i in 0..row.len().min(greys.len()) {
-        most = row[i].abs_diff(greys[i]).max(most);
-    }
-    most
+// The largest difference of two lists of pixels, place by place.
+fn farthest(pixels: &[u16], greys: &[u16]) -> u16 {
+    pixels
+        .iter()
+        .zip(greys)
+        .map(|(pixel, grey)| pixel.abs_diff(*grey))
+        .max()
+        .unwrap_or(0)
 }
 
 /// Indexes and shows the slip row by row.
@@ -29,28 +30,21 @@ pub fn show_scan(
     scan: &Scan,
 ) -> Result<Result<Shown, Refusal>, AllocError> {
     let width = usize::from(scan.width);
-    let mut indices = Vec::new(heap);
-    let mut greys = Vec::new(heap);
-    let mut most = 0;
-    let mut index_row = vec![in heap; 0u8; width]?;
-    let mut grey_row = vec![in heap; 0u16; width]?;
-    for y in 0..scan.height {
-        let row = scan.row(y);
-        if let Err(refusal) = table.index_and_show(
-            row,
-            index_row.as_mut_slice(),
-            grey_row.as_mut_slice(),
-        ) {
+    let mut indices = vec![in heap; 0u8; scan.pixels.len()]?;
+    let mut greys = vec![in heap; 0u16; scan.pixels.len()]?;
+    let places = indices
+        .chunks_exact_mut(width)
+        .zip(greys.chunks_exact_mut(width));
+    for (row, (indices, greys)) in scan.rows().zip(places) {
+        if let Err(refusal) = table.index_and_show(row, indices, greys) {
             return Ok(Err(refusal));
         }
-        indices.extend_from_slice(index_row.as_slice())?;
-        greys.extend_from_slice(grey_row.as_slice())?;
-        most = farthest(row, grey_row.as_slice()).max(most);
     }
+    let farthest = farthest(scan.pixels.as_slice(), greys.as_slice());
     Ok(Ok(Shown {
         indices,
         greys,
-        farthest: most,
+        farthest,
     }))
 }
 
@@ -60,7 +54,7 @@ pub fn picture(heap: Global, scan: &Scan, greys: &[u16]) -> Result<Vec<u8>, Allo
     let height = scan.height;
     let maximum = scan.maximum;
     let header = format!(in heap; "P5\n{width} {height}\n{maximum}\n")?;
-    let mut bytes = Vec::from_slice(heap, header.as_bytes())?;
+    let mut bytes = header.into_bytes();
     for grey in greys {
         let [high, low] = grey.to_be_bytes();
         if maximum > 255 {
