@@ -79,9 +79,8 @@ fn a_histogram_reads_what_was_counted(rt: HostRuntime) {
     assert_eq!(rt; place.darkest(), None);
     assert_eq!(rt; place.open(8), Ok(()));
     assert_eq!(rt; place.count(&[1, 1, 1, 3, 4, 7, 7, 7, 7]), Ok(9));
-    let expected = [0, 3, 0, 1, 1, 0, 0, 4, 0];
-    for level in 0..9 {
-        assert_eq!(rt; place.pixels_at(level), expected[level as usize]);
+    for (level, pixels) in (0..).zip([0, 3, 0, 1, 1, 0, 0, 4, 0]) {
+        assert_eq!(rt; place.pixels_at(level), pixels);
     }
     assert_eq!(rt; place.counted_levels(), 4);
     assert_eq!(rt; place.darkest(), Some(1));

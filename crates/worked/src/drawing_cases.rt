@@ -2,10 +2,11 @@
 use counting::Histogram;
 use drawing::draw;
 use pricing::{
-    Allowance, Ceiling, CentroidPricer, Distance, Pricer, Squared, Total, TrialPricer, Weight,
-    WeightList, Worst,
+    Allowance, Ceiling, CentroidPricer, Distance, Pricer, Squared, Tally, Total, TrialPricer,
+    Weight, WeightList, Worst,
 };
 use refusals::Refusal;
+use std::fmt::Debug;
 use std::process::Abort;
 use std::test::Fail;
 use tables::LevelTable;
@@ -35,47 +36,28 @@ fn check_bins(rt: &impl Abort, table: &LevelTable, bins: &[Bin]) -> Result<(), F
     Ok(())
 }
 
-// Draws at most `most` bins by a sum.
-fn totals<P: Pricer<Kind = Total>>(
+// Draws at most `most` bins, which have these bounds and representatives and this tally.
+fn check<P: Pricer>(
     rt: &impl Abort,
     pricer: &mut P,
     histogram: &Histogram,
     most: u16,
     bins: &[Bin],
-    tally: u64,
-) -> Result<(), Fail> {
+    tally: P::Kind,
+) -> Result<(), Fail>
+where
+    P::Kind: PartialEq + Debug,
+{
     let mut table = LevelTable::fresh();
     let receipt = draw(
         pricer,
         histogram,
         most,
-        &mut [Total { sum: 0 }; 16],
+        &mut [P::Kind::neutral(); 16],
         &mut [0; 16],
         &mut table,
     )?;
-    assert_eq!(rt; receipt.tally.sum, tally);
-    check_bins(rt, &table, bins)
-}
-
-// Draws at most `most` bins by the largest error.
-fn worsts<P: Pricer<Kind = Worst>>(
-    rt: &impl Abort,
-    pricer: &mut P,
-    histogram: &Histogram,
-    most: u16,
-    bins: &[Bin],
-    tally: u32,
-) -> Result<(), Fail> {
-    let mut table = LevelTable::fresh();
-    let receipt = draw(
-        pricer,
-        histogram,
-        most,
-        &mut [Worst { error: 0 }; 16],
-        &mut [0; 16],
-        &mut table,
-    )?;
-    assert_eq!(rt; receipt.tally.error, tally);
+    assert_eq!(rt; receipt.tally, tally);
     check_bins(rt, &table, bins)
 }
 
@@ -93,8 +75,9 @@ fn squares_are_summed(rt: HostRuntime) -> Result<(), Fail> {
         (256, each, 0),
     ];
     for (most, bins, tally) in cases {
-        totals(&rt, &mut centroid, &histogram, most, bins, tally)?;
-        totals(&rt, &mut trial, &histogram, most, bins, tally)?;
+        let tally = Total { sum: tally };
+        check(&rt, &mut centroid, &histogram, most, bins, tally)?;
+        check(&rt, &mut trial, &histogram, most, bins, tally)?;
     }
     Ok(())
 }
@@ -102,35 +85,70 @@ fn squares_are_summed(rt: HostRuntime) -> Result<(), Fail> {
 #[test]
 fn the_higher_of_two_representatives(rt: HostRuntime) -> Result<(), Fail> {
     let pair = counted(&[3, 4])?;
-    totals(&rt, &mut CentroidPricer::new(), &pair, 1, &[(7, 4)], 1)
+    check(
+        &rt,
+        &mut CentroidPricer::new(),
+        &pair,
+        1,
+        &[(7, 4)],
+        Total { sum: 1 },
+    )
 }
 
 #[test]
 fn other_measures(rt: HostRuntime) -> Result<(), Fail> {
     let histogram = nine_pixels()?;
     let mut distance = TrialPricer::<Distance, Total>::new(Distance::new());
-    totals(&rt, &mut distance, &histogram, 1, &[(7, 4)], 22)?;
+    check(
+        &rt,
+        &mut distance,
+        &histogram,
+        1,
+        &[(7, 4)],
+        Total { sum: 22 },
+    )?;
     let mut allowance = TrialPricer::<Allowance<Squared>, Total>::new(Allowance::new(
         Squared::new(),
         4,
     ));
-    totals(&rt, &mut allowance, &histogram, 1, &[(7, 4)], 35)?;
+    check(
+        &rt,
+        &mut allowance,
+        &histogram,
+        1,
+        &[(7, 4)],
+        Total { sum: 35 },
+    )?;
     let mut weights = WeightList::fresh();
     weights.fill(&[1, 1, 1, 1, 1, 1, 1, 0])?;
     let mut weight = TrialPricer::<Weight<Squared>, Total>::new(Weight::new(
         Squared::new(),
         weights,
     ));
-    totals(&rt, &mut weight, &histogram, 1, &[(7, 2)], 8)
+    check(&rt, &mut weight, &histogram, 1, &[(7, 2)], Total { sum: 8 })
 }
 
 #[test]
 fn the_largest_error(rt: HostRuntime) -> Result<(), Fail> {
     let histogram = nine_pixels()?;
     let mut worst = TrialPricer::<Squared, Worst>::new(Squared::new());
-    worsts(&rt, &mut worst, &histogram, 2, &[(4, 3), (7, 7)], 4)?;
+    check(
+        &rt,
+        &mut worst,
+        &histogram,
+        2,
+        &[(4, 3), (7, 7)],
+        Worst { error: 4 },
+    )?;
     let mut ceiling = TrialPricer::<Ceiling<Squared>, Worst>::new(Ceiling::new(Squared::new(), 9));
-    worsts(&rt, &mut ceiling, &histogram, 1, &[(7, 7)], 9)
+    check(
+        &rt,
+        &mut ceiling,
+        &histogram,
+        1,
+        &[(7, 7)],
+        Worst { error: 9 },
+    )
 }
 
 #[test]

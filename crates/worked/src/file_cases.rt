@@ -40,9 +40,7 @@ fn a_file_is_read_and_written_again(rt: HostRuntime) {
     assert_eq!(rt; table.bins(), 2);
     let mut out = [9u8; LENGTH + 1];
     assert_eq!(rt; write(&histogram, &table, &mut out), Ok(LENGTH));
-    for i in 0..LENGTH {
-        assert_eq!(rt; out[i], FILE[i]);
-    }
+    assert_eq!(rt; &out[..LENGTH], FILE.as_slice());
     assert_eq!(rt; out[LENGTH], 9);
     let mut short = [0u8; LENGTH - 1];
     assert_eq!(rt;
@@ -98,9 +96,7 @@ fn a_byte_that_breaks_a_rule_is_named(rt: HostRuntime) {
         let mut file = with_byte(byte, value);
         if byte == 7 {
             // level 1 has as many pixels as a histogram can hold, so the next entry passes the limit
-            file[8] = 255;
-            file[9] = 255;
-            file[10] = 255;
+            file[8..=10].fill(255);
         }
         refused(&rt, &file, Refusal::RuleBroken { section, place });
     }

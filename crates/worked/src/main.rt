@@ -10,33 +10,16 @@ mod file_cases;
 #[cfg(test)]
 mod scan_cases;
 
-ghost use Rattle.std.specs.Prelude.{◌<◌, IfOk};
-
-use anyhow::anyhow;
 use branch::report;
 use std::alloc::Global;
 use std::io::{BufReader, Read};
 
-fn digit(byte: u8) -> anyhow::Result<u8>
-    ensures { IfOk result (λ d. d < 16) }
-{
-    match byte {
-        b'0'..=b'9' => Ok(byte - b'0'),
-        b'a'..=b'f' => Ok(byte - b'a' + 10),
-        _ => Err(anyhow!("an input is not hexadecimal")),
-    }
-}
-
 // The bytes that a line of a case writes, two digits each.
 fn bytes_of(heap: Global, line: &str) -> anyhow::Result<Vec<u8>> {
-    let mut bytes = Vec::new(heap);
     if line == "(empty)" {
-        return Ok(bytes);
+        return Ok(Vec::new(heap));
     }
-    for pair in line.as_bytes().chunks_exact(2) {
-        bytes.push(16 * digit(pair[0])? + digit(pair[1])?)?;
-    }
-    Ok(bytes)
+    Ok(hex::decode(heap, line)?)
 }
 
 // A case is a line with the input, and then the lines of the report; a line of two dashes ends it.

@@ -1,6 +1,7 @@
 // Scans in the PGM format: what is read of them, and what is refused.
 use scans::read;
 use std::alloc::{AllocError, Global};
+use std::process::Abort;
 use std::test::Fail;
 
 // What is read of some bytes, in one line: width, height, maximum value and pixels, or the fault.
@@ -16,6 +17,15 @@ fn told(heap: Global, bytes: &[u8]) -> Result<String, AllocError> {
         }
         Err(fault) => format!(in heap; "{fault}"),
     }
+}
+
+// Each case is some bytes, and what is read of them.
+fn check(rt: &impl Abort, heap: Global, cases: &[(&[u8], &str)]) -> Result<(), Fail> {
+    for (bytes, expected) in cases {
+        let line = told(heap, bytes)?;
+        assert_eq!(rt; line.as_str(), *expected);
+    }
+    Ok(())
 }
 
 #[test]
@@ -34,11 +44,7 @@ fn scans(rt: HostRuntime) -> Result<(), Fail> {
         (b"P5 0002 01 256\r\x01\x00\x00\x01", "2 1 256 [256, 1]"),
         (b"P5 1 1 00000000000000000000255\x0c\x80", "1 1 255 [128]"),
     ];
-    for (bytes, expected) in cases {
-        let line = told(rt.alloc(), bytes)?;
-        assert_eq!(rt; line.as_str(), expected);
-    }
-    Ok(())
+    check(&rt, rt.alloc(), &cases)
 }
 
 #[test]
@@ -76,9 +82,5 @@ fn faults(rt: HostRuntime) -> Result<(), Fail> {
         ),
         (b"P5 1 1 999 \x03\xe8", "a pixel is above the maximum value"),
     ];
-    for (bytes, expected) in cases {
-        let line = told(rt.alloc(), bytes)?;
-        assert_eq!(rt; line.as_str(), expected);
-    }
-    Ok(())
+    check(&rt, rt.alloc(), &cases)
 }
