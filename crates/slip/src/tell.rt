@@ -127,6 +127,7 @@ fn drawn(rt: &HostRuntime, histogram: &Histogram, greys: u16) -> Result<LevelTab
 
 /// The bins of the table.
 fn listed(rt: &HostRuntime, table: &LevelTable) -> io::Result<()> {
+    // A table tells of its bins by number, and each bin begins where the one below it ends.
     let mut first = 0u16;
     for bin in 0..table.bins() {
         let bound = table.bound(bin);

@@ -6,6 +6,7 @@ use pricing::{
     Weight, WeightList, Worst,
 };
 use refusals::Refusal;
+use std::alloc::Global;
 use std::fmt::Debug;
 use std::process::Abort;
 use std::test::Fail;
@@ -39,6 +40,7 @@ fn check_bins(rt: &impl Abort, table: &LevelTable, bins: &[Bin]) -> Result<(), F
 // Draws at most `most` bins, which have these bounds and representatives and this tally.
 fn check<P: Pricer>(
     rt: &impl Abort,
+    heap: Global,
     pricer: &mut P,
     histogram: &Histogram,
     most: u16,
@@ -49,11 +51,12 @@ where
     P::Kind: PartialEq + Debug,
 {
     let mut table = LevelTable::fresh();
+    let mut tallies = vec![in heap; P::Kind::neutral(); 16]?;
     let receipt = draw(
         pricer,
         histogram,
         most,
-        &mut [P::Kind::neutral(); 16],
+        tallies.as_mut_slice(),
         &mut [0; 16],
         &mut table,
     )?;
@@ -76,8 +79,16 @@ fn squares_are_summed(rt: HostRuntime) -> Result<(), Fail> {
     ];
     for (most, bins, tally) in cases {
         let tally = Total { sum: tally };
-        check(&rt, &mut centroid, &histogram, most, bins, tally)?;
-        check(&rt, &mut trial, &histogram, most, bins, tally)?;
+        check(
+            &rt,
+            rt.alloc(),
+            &mut centroid,
+            &histogram,
+            most,
+            bins,
+            tally,
+        )?;
+        check(&rt, rt.alloc(), &mut trial, &histogram, most, bins, tally)?;
     }
     Ok(())
 }
@@ -87,6 +98,7 @@ fn the_higher_of_two_representatives(rt: HostRuntime) -> Result<(), Fail> {
     let pair = counted(&[3, 4])?;
     check(
         &rt,
+        rt.alloc(),
         &mut CentroidPricer::new(),
         &pair,
         1,
@@ -101,6 +113,7 @@ fn other_measures(rt: HostRuntime) -> Result<(), Fail> {
     let mut distance = TrialPricer::<Distance, Total>::new(Distance::new());
     check(
         &rt,
+        rt.alloc(),
         &mut distance,
         &histogram,
         1,
@@ -113,6 +126,7 @@ fn other_measures(rt: HostRuntime) -> Result<(), Fail> {
     ));
     check(
         &rt,
+        rt.alloc(),
         &mut allowance,
         &histogram,
         1,
@@ -125,7 +139,15 @@ fn other_measures(rt: HostRuntime) -> Result<(), Fail> {
         Squared::new(),
         weights,
     ));
-    check(&rt, &mut weight, &histogram, 1, &[(7, 2)], Total { sum: 8 })
+    check(
+        &rt,
+        rt.alloc(),
+        &mut weight,
+        &histogram,
+        1,
+        &[(7, 2)],
+        Total { sum: 8 },
+    )
 }
 
 #[test]
@@ -134,6 +156,7 @@ fn the_largest_error(rt: HostRuntime) -> Result<(), Fail> {
     let mut worst = TrialPricer::<Squared, Worst>::new(Squared::new());
     check(
         &rt,
+        rt.alloc(),
         &mut worst,
         &histogram,
         2,
@@ -143,6 +166,7 @@ fn the_largest_error(rt: HostRuntime) -> Result<(), Fail> {
     let mut ceiling = TrialPricer::<Ceiling<Squared>, Worst>::new(Ceiling::new(Squared::new(), 9));
     check(
         &rt,
+        rt.alloc(),
         &mut ceiling,
         &histogram,
         1,
