@@ -12,7 +12,7 @@ use crate::raster::bytes_per_sample;
 // The largest maximum value: 1,024 grey levels.
 const MAXIMUM: u16 = 1023;
 
-/// What a header says, where a scan may have it.
+/// The numbers of a header, each within what a scan may have.
 #[derive(Clone, Copy)]
 pub struct Header {
     pub width: u16,
@@ -78,6 +78,7 @@ fn ends_line(byte: u8) -> bool
 fn gap_len(bytes: &[u8]) -> usize
     ensures { result ≡ gap bytes.now }
 {
+    // Whether a comment has begun and not ended, which a chain would have to carry along.
     let mut comment = false;
     for (i, byte) in bytes.iter().enumerate() {
         if comment {

@@ -59,7 +59,7 @@ pub fn bytes_per_sample(maximum: u16) -> usize
     if maximum < 256 { 1 } else { 2 }
 }
 
-// Whether no pixel is above the maximum value.
+// Whether no pixel is above the maximum value. Bytes and pairs of bytes are two types, so each size of a sample has its chain.
 fn all_within(maximum: u16, samples: &[u8]) -> bool
     ensures { result ≡ within maximum (pixels_of maximum samples.now) }
 {
