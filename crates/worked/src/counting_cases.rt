@@ -5,7 +5,7 @@ use std::process::Abort;
 
 // Makes the calls on a fresh histogram in `place`, and holds each answer against the expected one.
 fn run(rt: &impl Abort, calls: &[Call<'_>], expected: &[Answer], place: &mut Histogram) {
-    let mut answers = [Answer::Done; 16];
+    let mut answers = [Ok(None); 16];
     replay(calls, &mut answers, place);
     for (answer, wanted) in answers.iter().zip(expected.iter()) {
         assert_eq!(rt; *answer, *wanted);
@@ -54,18 +54,18 @@ fn rows_are_taken_whole_or_not_at_all(rt: HostRuntime) {
         Call::Withdraw(&[7]),
     ];
     let expected = [
-        Answer::Refused(Refusal::NotALevel { place: 2 }),
-        Answer::Done,
-        Answer::Total(9),
-        Answer::Refused(Refusal::NotALevel { place: 1 }),
-        Answer::Refused(Refusal::NotALevel { place: 2 }),
-        Answer::Refused(Refusal::LevelBelowZero { level: 3 }),
-        Answer::Refused(Refusal::LevelBelowZero { level: 0 }),
-        Answer::Total(9),
-        Answer::Total(9),
-        Answer::Total(6),
-        Answer::Done,
-        Answer::Refused(Refusal::LevelBelowZero { level: 7 }),
+        Err(Refusal::NotALevel { place: 2 }),
+        Ok(None),
+        Ok(Some(9)),
+        Err(Refusal::NotALevel { place: 1 }),
+        Err(Refusal::NotALevel { place: 2 }),
+        Err(Refusal::LevelBelowZero { level: 3 }),
+        Err(Refusal::LevelBelowZero { level: 0 }),
+        Ok(Some(9)),
+        Ok(Some(9)),
+        Ok(Some(6)),
+        Ok(None),
+        Err(Refusal::LevelBelowZero { level: 7 }),
     ];
     let mut place = Histogram::fresh();
     run(&rt, &calls, &expected, &mut place);
@@ -90,15 +90,15 @@ fn a_histogram_reads_what_was_counted(rt: HostRuntime) {
 #[test]
 fn answers_past_the_calls_stay(rt: HostRuntime) {
     let mut place = Histogram::fresh();
-    let mut answers = [Answer::Total(77); 3];
+    let mut answers = [Ok(Some(77)); 3];
     replay(
         &[Call::Open(4), Call::Count(&[3])],
         &mut answers,
         &mut place,
     );
-    assert_eq!(rt; answers[1], Answer::Total(1));
-    assert_eq!(rt; answers[2], Answer::Total(77));
-    let mut one = [Answer::Done; 1];
+    assert_eq!(rt; answers[1], Ok(Some(1)));
+    assert_eq!(rt; answers[2], Ok(Some(77)));
+    let mut one = [Ok(None); 1];
     replay(&[Call::Clear, Call::Open(9)], &mut one, &mut place);
     assert_eq!(rt; place.levels(), 2);
 }

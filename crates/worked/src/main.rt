@@ -10,16 +10,33 @@ mod file_cases;
 #[cfg(test)]
 mod scan_cases;
 
+ghost use Rattle.std.specs.Prelude.{◌<◌, IfOk};
+
+use anyhow::anyhow;
 use branch::report;
 use std::alloc::Global;
 use std::io::{BufReader, Read};
 
-// The bytes that a line of a case writes, two digits each.
-fn bytes_of(heap: Global, line: &str) -> anyhow::Result<Vec<u8>> {
-    if line == "(empty)" {
-        return Ok(Vec::new(heap));
+fn digit(byte: u8) -> anyhow::Result<u8>
+    ensures { IfOk result (λ d. d < 16) }
+{
+    match byte {
+        b'0'..=b'9' => Ok(byte - b'0'),
+        b'a'..=b'f' => Ok(byte - b'a' + 10),
+        _ => Err(anyhow!("an input is not hexadecimal")),
     }
-    Ok(hex::decode(heap, line)?)
+}
+
+// The bytes that a line of a case writes, two digits each. The kit's `hex` would also take capitals, and refuse a lone last digit.
+fn bytes_of(heap: Global, line: &str) -> anyhow::Result<Vec<u8>> {
+    let mut bytes = Vec::new(heap);
+    if line == "(empty)" {
+        return Ok(bytes);
+    }
+    for pair in line.as_bytes().chunks_exact(2) {
+        bytes.push(16 * digit(pair[0])? + digit(pair[1])?)?;
+    }
+    Ok(bytes)
 }
 
 // A case is a line with the input, and then the lines of the report; a line of two dashes ends it.
