@@ -5,11 +5,23 @@ use Rattle.std.specs.List.{prefix_len, AllAdjacentBelow}
 use Rattle.std.proofs.lemmas.List.Sorted.{IsNonDecreasingBy-from_all_adjacent}
 use Rattle.std.proofs.lemmas.List.Sums.{prefix_len_is}
 use Rattle.std.proofs.lemmas.Bool.{lt-ltb, le-ltb, cases_lt, cases_eq}
-use Rattle.std.proofs.lemmas.List.{length-map, length-take-le, get_or-take, get_or_append_left, get_or-append_right, get_or-replicate, get_or_default, length-replicate}
+use Rattle.std.proofs.lemmas.List.{length-map, get_or-map, length-take-le, get_or-take, get_or_append_left, get_or-append_right, get_or-replicate, get_or_default, length-replicate}
 use Rattle.tables.specs.Table.{Table, Lawful}
 use Rattle.tables.specs.Bins.{bounds_in, representatives_in}
 use Rattle.tables.specs.Meaning.{table_of}
+use Rattle.tables.specs.declared.table.Bin.{Bin}
 use Rattle.tables.specs.declared.table.LevelTable.{LevelTable}
+
+-- what is read past the last bin
+abbrev pub no_bin : Bin
+no_bin = record { bound = 0; representative = 0 }
+
+-- a bin's bound and representative, read from the bin or from the lists that the bins make
+pub bound_at : (bins : List Bin) (i : ℕ) → i < length bins → get_or (bounds_in bins) i 0 ≡ (get_or bins i no_bin).bound
+bound_at bins i h = get_or-map (λ bin. bin.bound) bins i no_bin 0 h
+
+pub representative_at : (bins : List Bin) (i : ℕ) → i < length bins → get_or (representatives_in bins) i 0 ≡ (get_or bins i no_bin).representative
+representative_at bins i h = get_or-map (λ bin. bin.representative) bins i no_bin 0 h
 
 -- the bins below `bin` have filled the levels below `first`
 pub record Binning (bounds of_level : List ℕ) (bin first : ℕ) : Type 0 where
