@@ -66,7 +66,7 @@ impl DrawnTable<'_> {
     {
         let mut text = String::new(heap);
         let mut first = 0;
-        // By number: a table gives its bounds and representatives one by one.
+        // By number, as the report is said: where a bin begins is told by the bin below it.
         for bin in 0..self.table.bins() {
             let line = self.bin_line(heap, bin, first)?;
             text.push_str(line.as_str())?;

@@ -127,11 +127,10 @@ fn drawn(rt: &HostRuntime, histogram: &Histogram, greys: u16) -> Result<LevelTab
 
 /// The bins of the table.
 fn listed(rt: &HostRuntime, table: &LevelTable) -> io::Result<()> {
-    // A table tells of its bins by number, and each bin begins where the one below it ends.
     let mut first = 0u16;
-    for bin in 0..table.bins() {
-        let bound = table.bound(bin);
-        let grey = table.representative(bin);
+    for bin in table.as_slice() {
+        let bound = bin.bound;
+        let grey = bin.representative;
         println!(rt; "  levels {first} to {bound} shown as {grey}")?;
         first = bound.saturating_add(1);
     }
