@@ -106,6 +106,7 @@ impl Histogram {
         if let Some(level) = take_row(&mut left, row) {
             return Err(Refusal::LevelBelowZero { level });
         }
+        // No longer than the total, since each level had enough: `TryFrom` would add an answer that never comes.
         let total = self.total - row.len() as u32;
         *self = Histogram {
             pixels: left,

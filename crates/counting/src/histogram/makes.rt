@@ -36,6 +36,7 @@ impl Histogram {
         Some(Histogram {
             pixels: padded(pixels),
             total,
+            // at most 1,024, and so no `TryFrom`
             levels: pixels.len() as u16,
         })
     }

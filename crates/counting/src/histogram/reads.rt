@@ -1,4 +1,5 @@
-// A fresh histogram, and what can be read off one.
+// A fresh histogram, and what can be read off one. A place among the levels is at most 1,023 and a number of them at most 1,024, so
+// neither loses anything as a `u16`; `TryFrom` would add an answer that never comes.
 ghost use Rattle.std.specs.Prelude.{◌≡◌, ◌≤◌};
 ghost use Rattle.counting.specs.Ledger.{blank, fresh_ledger, total_of, pixels_at, counted_levels};
 ghost use Rattle.counting.specs.Extremes.{Darkest, Palest};

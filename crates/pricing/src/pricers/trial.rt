@@ -27,6 +27,7 @@ impl LevelRange<'_> {
         let mut tally = T::neutral();
         for (place, pixels) in self.pixels().iter().enumerate() {
             if *pixels > 0 {
+                // A place among the levels is below 1,024, which no `From` knows.
                 let level = self.first + place as u16;
                 tally = T::charge(*pixels, measure.error(level, r)).join(tally);
             }
