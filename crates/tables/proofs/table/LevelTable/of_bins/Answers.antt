@@ -1,5 +1,4 @@
-use Rattle.std.proofs.Common.{◌≡◌, ℕ, ◌<◌, length, arith}
-use Rattle.tables.specs.Table.{Lawful}
+use Rattle.std.proofs.Common.{arith}
 use Rattle.tables.specs.Bins.{table_in}
 use Rattle.tables.proofs.Bins.{bound_below}
 use Rattle.tables.proofs.table.LevelTable.of_bins.Goals as goal

@@ -13,15 +13,15 @@ risen : (bins : List Bin) (r : Bool) → IsAllAdjacentAnswer (λ low high b. b �
     Decides r ((i : ℕ) → i + 1 < length (bounds_in bins) → get_or (bounds_in bins) i 0 < get_or (bounds_in bins) (i + 1) 0)
 risen bins true each = (
   λ _ i h. (
-    let more : i + 1 < length bins = rw (length-map bins (λ bin. bin.bound)) at h in
-    omega (arith, bound_at bins i (omega arith), bound_at bins (i + 1) more, ltb-true _ _ (sym (each i no_bin more)))),
+      let more : i + 1 < length bins = rw (length-map bins (λ bin. bin.bound)) at h in
+      omega (arith, bound_at bins i (omega arith), bound_at bins (i + 1) more, ltb-true _ _ (sym (each i no_bin more)))),
   λ _. refl,
 )
 risen bins false some = (
   λ e. absurd (false≢true e),
   λ all. (
-    let up = all some.0 (omega (arith, length-map bins (λ bin. bin.bound), some.1)) in
-    absurd (false≢true (some.2 no_bin ∙ lt-ltb _ _ (omega (arith, bound_at bins some.0 (omega (arith, some.1)), bound_at bins (some.0 + 1) some.1))))),
+      let up = all some.0 (omega (arith, length-map bins (λ bin. bin.bound), some.1)) in
+      absurd (false≢true (some.2 no_bin ∙ lt-ltb _ _ (omega (arith, bound_at bins some.0 (omega (arith, some.1)), bound_at bins (some.0 + 1) some.1))))),
 )
 
 pub returns : goal.returns
