@@ -9,10 +9,12 @@ use Rattle.std.proofs.lemmas.List.FromFn.{length-range_with_len}
 use Rattle.counting.specs.Ledger.{Ledger, counted_levels, pixels_at}
 use Rattle.counting.specs.Sound.{Sound}
 use Rattle.pricing.specs.Tallies.{Ops, Laws}
+use Rattle.pricing.specs.Errors.{SameErrors}
 use Rattle.pricing.specs.Prices.{Priceless, PricedAt, Priced}
 use Rattle.divisions.specs.Divisions.{levels_of, level_at, representative, price}
 use Rattle.divisions.proofs.Places.{rank, front, front_more, rank_all}
 use Rattle.divisions.proofs.Prices.{never_priceless, priced_is}
+use Rattle.divisions.proofs.Same.{price_same}
 
 module _ (g : Ledger) where
   -- no more levels are listed than have been looked at
@@ -53,3 +55,9 @@ module _ {C : Type 0} (o : Ops C) (L : Laws o) (error : ℕ → ℕ → ℕ) (g 
   answer_is answer priced given e =
       let here : PricedAt o error g low high given.0 given.1 = subst (Priced o error g low high) e priced in
       priced_is o L error g S start (end + 1 - start) given.0 given.1 (omega arith) (omega arith) (subst₂ (λ (a b : ℕ). PricedAt o error g a b given.0 given.1) low_is last here)
+
+-- the price of a run by errors that agree
+pub price_agrees : {C : Type 0} (o : Ops C) (asked then error : ℕ → ℕ → ℕ) → SameErrors asked then → SameErrors then error → (g : Ledger) → Sound g → (start end : ℕ) → start ≤ end → end < counted_levels g →
+    (paid : C) → paid ≡ price o asked g start (end + 1 - start) → paid ≡ price o error g start (end + 1 - start)
+price_agrees o asked then error kept same g S start end order inside paid is =
+    is ∙ price_same o asked error (λ k r a b. kept k r a b ∙ same k r a b) g S start (end + 1 - start) (omega arith) (omega arith)

@@ -1,3 +1,4 @@
+-- A drawing that no row refuses has what drawing up asks for.
 use Rattle.std.proofs.Common.{arith}
 use Rattle.counting.specs.Meaning.{ledger_of}
 use Rattle.drawing.proofs.Judging.{allowed}

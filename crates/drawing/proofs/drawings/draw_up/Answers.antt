@@ -1,3 +1,4 @@
+-- The filled cells give the tally and the table that a drawing promises.
 use Rattle.std.proofs.Common.{◌≡◌, ℕ, ◌<◌, min, sym, refl, ap, ◌∙◌, arith}
 use Rattle.counting.specs.Ledger.{counted_levels}
 use Rattle.counting.specs.Meaning.{ledger_of}

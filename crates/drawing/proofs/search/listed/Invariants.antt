@@ -1,3 +1,4 @@
+-- The counted levels below `level` are listed.
 use Rattle.std.proofs.Common.{◌≡◌}
 use Rattle.counting.specs.Meaning.{ledger_of}
 use Rattle.divisions.proofs.Places.{front}

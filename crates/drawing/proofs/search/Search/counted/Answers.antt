@@ -1,3 +1,4 @@
+-- As many levels are listed as are counted.
 use Rattle.std.proofs.Common.{◌∙◌}
 use Rattle.counting.proofs.Ledgers.{sound_histogram}
 use Rattle.drawing.specs.Filling.{ledger}

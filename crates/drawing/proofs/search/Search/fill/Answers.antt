@@ -1,3 +1,4 @@
+-- Nothing is owed before the first end, and each end adds its cells.
 use Rattle.std.proofs.Common.{◌≡◌, ℕ, ◌+◌, refl, ◌∙◌, subst, arith}
 use Rattle.divisions.specs.Divisions.{price}
 use Rattle.drawing.specs.Filling.{ledger, counted, SearchedTo}

@@ -1,3 +1,4 @@
+-- The cells of fewer levels than the next end has are filled.
 use Rattle.std.proofs.Common.{◌+◌}
 use Rattle.pricing.specs.Errors.{SameErrors}
 use Rattle.divisions.specs.Divisions.{price}

@@ -1,3 +1,4 @@
+-- The starts above `start` have been tried, against any error that agrees with the pricer as it was.
 use Rattle.std.proofs.Common.{ℕ, ◌+◌, ◌≤◌}
 use Rattle.pricing.specs.Errors.{SameErrors}
 use Rattle.divisions.specs.Divisions.{price}

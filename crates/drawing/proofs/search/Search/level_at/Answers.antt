@@ -1,3 +1,4 @@
+-- The listed levels are the counted levels, by their places.
 use Rattle.std.proofs.Common.{◌∙◌, arith}
 use Rattle.counting.proofs.Ledgers.{sound_histogram}
 use Rattle.drawing.specs.Filling.{ledger}

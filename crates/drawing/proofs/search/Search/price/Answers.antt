@@ -1,3 +1,4 @@
+-- A run always has a price, and what is answered is its representative and its price.
 use Rattle.counting.proofs.Ledgers.{sound_histogram}
 use Rattle.drawing.specs.Filling.{ledger}
 use Rattle.drawing.proofs.Asked.{always_priced, answer_is}

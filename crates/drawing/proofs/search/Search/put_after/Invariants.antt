@@ -1,3 +1,4 @@
+-- The cells of the run and those before it lie within the lists, and those up to `k` have been turned.
 use Rattle.std.proofs.Common.{◌+◌, ◌≤◌, length}
 use Rattle.drawing.specs.Cells.{Computes, Turned}
 use Rattle.drawing.proofs.search.Search.put_after.Given as goal

@@ -1,3 +1,4 @@
+-- What was traced, with the last bound at the highest level, is the table of the best division.
 use Rattle.std.proofs.Common.{◌≡◌, ℕ, ◌-◌, List, length, set, sym, refl, ap, ◌∙◌, subst₂, ap₂, arith, length-set}
 use Rattle.std.specs.List.{refill}
 use Rattle.tables.specs.Table.{given, Lawful}

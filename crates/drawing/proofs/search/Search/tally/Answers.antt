@@ -1,3 +1,4 @@
+-- The last cell lies within the lists and has the least tally of all counted levels.
 use Rattle.std.proofs.Common.{◌≡◌, ℕ, ◌-◌, ◌*◌, ◌<◌, length, get_or, sym, ap, ◌∙◌, arith}
 use Rattle.std.proofs.lemmas.List.{get_or_read}
 use Rattle.drawing.specs.Filling.{counted}

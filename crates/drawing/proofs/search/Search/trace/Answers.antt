@@ -1,3 +1,4 @@
+-- The links are followed from the last bin to the first.
 use Rattle.std.proofs.Common.{◌≡◌, ℕ, ◌+◌, ◌-◌, ◌*◌, length, get_or, reverse, ap, ◌∙◌, arith}
 use Rattle.divisions.specs.Divisions.{representative}
 use Rattle.counting.proofs.Ledgers.{sound_histogram}

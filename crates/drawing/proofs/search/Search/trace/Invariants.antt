@@ -1,3 +1,4 @@
+-- The bins that are left and those that were read, which stand turned round.
 use Rattle.std.proofs.Common.{reverse}
 use Rattle.pricing.specs.Errors.{SameErrors}
 use Rattle.drawing.specs.Filling.{ledger, counted}
