@@ -1,5 +1,5 @@
 -- One bin number more at each turn.
-use Rattle.std.proofs.Common.{◌≡◌, ◌+◌, ◌-◌, ◌*◌, ◌<◌, length, ap, ◌∙◌, arith}
+use Rattle.std.proofs.Common.{◌≡◌, ◌+◌, ◌-◌, ◌*◌, ◌<◌, length, ap, ◌∙◌, arith, rules}
 use Rattle.std.proofs.lemmas.List.{get_or_read}
 use Rattle.drawing.specs.Filling.{counted}
 use Rattle.drawing.proofs.Placed.{row_inside}
@@ -42,6 +42,11 @@ loop-k-preserved g c =
                 (omega (arith, inv.0)) (omega (arith, inv.1)) (omega (arith, inv.2)) joined_is kept_is turned w.if-not-keeps.false w.tallies-is w.links-is
           ],
     )
+
+pub offset_bounds-tallies-row-then-not-keeps : goal.offset_bounds-tallies-row-then-not-keeps
+offset_bounds-tallies-row-then-not-keeps g c =
+    let inside : c.args.run.end * c.args.self.now.bins + c.args.numbers.start + c.loop-k.k < length c.loop-k.tallies = omega (arith, c.loop-k.invariant.0) in
+    search rules
 
 pub returns : goal.returns
 returns g c = λ keep answers. let all : c.loop-k.k ≡ c.args.numbers.end - c.args.numbers.start = omega arith in rw (← all) (c.loop-k.invariant.3 keep answers)
