@@ -1,13 +1,7 @@
-use Rattle.std.proofs.Common.{◌≡◌, ℕ, ◌≤◌, min, sym, ◌∙◌, ap₂, arith}
-use Rattle.std.proofs.lemmas.Nat.{mul-le}
+use Rattle.std.proofs.Common.{◌≡◌, ℕ, min, sym, ◌∙◌, ap₂, arith}
 use Rattle.divisions.specs.Figures.{priced_figure}
 use Rattle.divisions.proofs.ClosedForms.{priced_counts}
 use Rattle.divisions.proofs.figures.priced.Goals as goal
-
-pub overflow_sub-result : goal.overflow_sub-result
-overflow_sub-result c =
-    let l : c.from-b.result ≤ c.from-c.result = omega arith in
-    omega (arith, mul-le c.from-b.result c.from-b.result c.from-c.result c.from-c.result l l)
 
 pub returns : goal.returns
 returns c =
