@@ -34,7 +34,7 @@ fn judge(histogram: &Histogram, most: u16, cells: usize) -> Result<(), Refusal>
     Ok(())
 }
 
-// Draws a table that is not refused.
+// Draws a table that is not refused. `SameErrors` is a fact about the call, which no type of a pricer can hold.
 fn draw_up<P: Pricer>(
     pricer: &mut P,
     histogram: &Histogram,

@@ -1,4 +1,5 @@
 // A search for the best division of the counted levels of a histogram, and the price of a run of them.
+// Each contract with a lent pricer says `SameErrors`: it is a fact about the call, and no type can hold it.
 ghost use Rattle.std.specs.Prelude.{◌≡◌, ℕ, ◌+◌, ◌-◌, ◌<◌, ◌≤◌};
 ghost use Rattle.counting.specs.Ledger.{counted_levels};
 ghost use Rattle.counting.specs.Meaning.{ledger_of};
@@ -41,6 +42,7 @@ fn listed(histogram: &Histogram) -> ArrayVec<u16, 1024>
     let mut levels = ArrayVec::new();
     for (level, pixels) in histogram.pixels().iter().enumerate() {
         if *pixels > 0 {
+            // There are at most 1,024 levels, so the cast loses nothing: `try_from` would make a failure of what cannot fail.
             levels.push(level as u16);
         }
     }

@@ -1,4 +1,5 @@
 // The least tallies of the first counted levels in each number of runs, cell by cell.
+// `HasRoom` and `Filled` stand in each contract anew: they tie the search to the lists, and neither type holds the other.
 ghost use Rattle.std.specs.Prelude.{◌≡◌, ℕ, Bool, ◌+◌, ◌-◌, ◌*◌, ◌<◌, ◌≤◌, max, length};
 ghost use Rattle.pricing.specs.Errors.{SameErrors};
 ghost use Rattle.divisions.specs.Divisions.{price};
@@ -52,6 +53,7 @@ impl Search<'_> {
             let joined = price.join(tallies[before + k]);
             if !keeps(tallies[row + k], joined) {
                 tallies[row + k] = joined;
+                // a start is the place of one of at most 1,024 levels, so the cast loses nothing
                 links[row + k] = run.start as u16;
             }
         }

@@ -1,5 +1,6 @@
 // The bins of the best division, read back from the links of the filled cells.
-ghost use Rattle.std.specs.Prelude.{◌≡◌, ◌+◌, ◌-◌, ◌*◌, ◌<◌, ◌≤◌, map};
+// `Filled` stands in both contracts: it ties the search, the cells and the pricer, and no one of their types holds the others.
+ghost use Rattle.std.specs.Prelude.{◌≡◌, ◌+◌, ◌-◌, ◌*◌, ◌<◌, ◌≤◌};
 ghost use Rattle.pricing.specs.Errors.{SameErrors};
 ghost use Rattle.tables.specs.Meaning.{table_of};
 ghost use Rattle.divisions.specs.Tables.{table_for};
@@ -9,26 +10,18 @@ use super::{Run, Search};
 use crate::cells::Cells;
 use arrayvec::ArrayVec;
 use pricing::Pricer;
-use tables::LevelTable;
-
-// Bins, as the two lists that a table is made of.
-#[derive(Drop)]
-struct Bins {
-    bounds: ArrayVec<u16, 256>,
-    representatives: ArrayVec<u16, 256>,
-}
+use tables::{Bin, LevelTable};
 
 impl Search<'_> {
     // Each bin's bound, the highest counted level of its run, and its representative.
-    fn trace<P: Pricer>(&self, pricer: &mut P, cells: &Cells<'_, P::Kind>) -> Bins
+    fn trace<P: Pricer>(&self, pricer: &mut P, cells: &Cells<'_, P::Kind>) -> ArrayVec<Bin, 256>
         requires { Filled P.Kind.Tally.ops (P.Measure.error pricer.old) self.now cells.now }
-        ensures bounds { result.bounds.items ≡ map (λ bin. bin.0) (best_bins P.Kind.Tally.ops (P.Measure.error pricer.old) self.now) }
-        ensures representatives { result.representatives.items ≡ map (λ bin. bin.1) (best_bins P.Kind.Tally.ops (P.Measure.error pricer.old) self.now) }
+        ensures bins { result.items ≡ best_bins P.Kind.Tally.ops (P.Measure.error pricer.old) self.now }
         ensures same { SameErrors (P.Measure.error pricer.new) (P.Measure.error pricer.old) }
     {
-        let mut bounds = ArrayVec::new();
-        let mut representatives = ArrayVec::new();
+        let mut bins = ArrayVec::new();
         let mut end = self.counted();
+        // By number, from the last bin: only a run's link says where the run before it ends, and so which cell is next.
         for bin in (0..self.bins).rev() {
             let start = usize::from(cells.links[(end - 1) * self.bins + bin]);
             let last = Run {
@@ -36,16 +29,14 @@ impl Search<'_> {
                 end: end - 1,
             };
             let (representative, _) = self.price(pricer, last);
-            bounds.push(self.level_at(last.end));
-            representatives.push(representative);
+            bins.push(Bin {
+                bound: self.level_at(last.end),
+                representative,
+            });
             end = start;
         }
-        bounds.reverse();
-        representatives.reverse();
-        Bins {
-            bounds,
-            representatives,
-        }
+        bins.reverse();
+        bins
     }
 
     // The table of the best division, whose links the filled cells hold.
@@ -55,13 +46,10 @@ impl Search<'_> {
         ensures same { SameErrors (P.Measure.error pricer.new) (P.Measure.error pricer.old) }
     {
         let levels = self.histogram.levels();
-        let Bins {
-            mut bounds,
-            representatives,
-        } = self.trace(pricer, cells);
+        let mut bins = self.trace(pricer, cells);
         // The last bin reaches to the highest level, so that a paler pixel than any counted one has a bin too.
-        bounds[self.bins - 1] = levels - 1;
+        bins[self.bins - 1].bound = levels - 1;
         // The bounds rise to the highest level and the representatives are levels, so the rules of a table hold.
-        LevelTable::of(levels, &bounds, &representatives).unwrap()
+        LevelTable::of_bins(levels, &bins).unwrap()
     }
 }

@@ -8,4 +8,4 @@ use Rattle.drawing.proofs.search.Search.trace.Given as goal
 abbrev pub invariant-loop-bin : goal.invariant-loop-bin
 invariant-loop-bin g l =
     SameErrors (g.P.Measure.error l.pricer) (g.P.Measure.error l.initial.pricer)
-    × Tracing g.P.Kind.Tally.ops (g.P.Measure.error l.initial.pricer) (ledger l.self) (counted l.self) l.self.bins l.bin l.end (reverse l.bounds.items) (reverse l.representatives.items)
+    × Tracing g.P.Kind.Tally.ops (g.P.Measure.error l.initial.pricer) (ledger l.self) (counted l.self) l.self.bins l.bin l.end (reverse l.bins.items)
