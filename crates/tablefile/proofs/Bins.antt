@@ -2,64 +2,75 @@
 use Rattle.std.proofs.Common.{◌≡◌, ℕ, suc, ◌+◌, ◌-◌, ◌<◌, ◌≤◌, Bool, true, eqb, ltb, leb, List, map, length, [], ◌∷◌, ◌++◌, get_or, None, sym, refl, ap, ◌∙◌, ap₂, add-one, arith}
 use Rattle.std.specs.List.{range_with_len}
 use Rattle.std.proofs.lemmas.Bool.{and_parts, leb-true, ltb-true, eqb-true, eq-eqb}
+use Rattle.std.proofs.lemmas.Simd.{map-map}
 use Rattle.std.proofs.lemmas.List.FromFn.{map-range_with_len_more, length-map-range_with_len, get_or-map-range_with_len}
-use Rattle.tables.specs.Table.{Lawful}
+use Rattle.tables.specs.Table.{Lawful, given}
+use Rattle.tables.specs.Bins.{bounds_in, representatives_in}
+use Rattle.tables.specs.declared.table.Bin.{Bin}
 use Rattle.tablefile.specs.Fields.{bins_in, bin_place, bound_in, representative_in}
 use Rattle.tablefile.specs.Faults.{first_of, part_fault, bin_rule, bin_fault, least_next}
 use Rattle.tablefile.specs.Numbers.{word_at}
-use Rattle.tablefile.specs.Parts.{ReadOn, table_in}
+use Rattle.tablefile.specs.Parts.{GotBin, table_in}
 use Rattle.tablefile.specs.declared.body.Body.{Body}
 use Rattle.tablefile.proofs.Faults.{first_of_more, first_of_none, part_none}
 
--- the numbers of the first bins of a file
-abbrev pub first_bins : (ℕ → ℕ) → ℕ → List ℕ
-first_bins number i = map number (range_with_len 0 i)
+-- the first bins of a file
+abbrev bin_in : List ℕ → ℕ → ℕ → Bin
+bin_in file place i = record { bound = bound_in file place i; representative = representative_in file place i }
 
-first_bins_more : (number : ℕ → ℕ) (i : ℕ) → first_bins number (i + 1) ≡ first_bins number i ++ number i ∷ []
-first_bins_more number i = map-range_with_len_more number 0 i i (omega arith)
-
-pub first_bins_long : (number : ℕ → ℕ) (i : ℕ) → length (first_bins number i) ≡ i
-first_bins_long number i = length-map-range_with_len number 0 i
+abbrev pub first_bins : List ℕ → ℕ → ℕ → List Bin
+first_bins file place i = map (bin_in file place) (range_with_len 0 i)
 
 -- entries 0 to i - 1 of section 2 are read, and none has a fault
-pub record BinsUpto (file : List ℕ) (levels place : ℕ) (bounds greys : List ℕ) (least i : ℕ) (body : Body) : Type 0 where
+pub record BinsUpto (file : List ℕ) (levels place : ℕ) (bins : List Bin) (least i : ℕ) (body : Body) : Type 0 where
   pub fine : first_of (bin_fault file levels place) i ≡ None
-  pub bounds_are : bounds ≡ first_bins (bound_in file place) i
-  pub greys_are : greys ≡ first_bins (representative_in file place) i
+  pub so_far : bins ≡ first_bins file place i
   pub rises : least ≡ least_next (bound_in file place) i
   pub file_is : body.file.now ≡ file
   pub levels_are : body.levels ≡ levels
   pub reach : body.place ≡ bin_place place i
 
-pub no_bins : (file : List ℕ) (levels place : ℕ) (bounds greys : List ℕ) (body : Body) → bounds ≡ [] → greys ≡ [] →
-    body.file.now ≡ file → body.levels ≡ levels → body.place ≡ place + 2 → BinsUpto file levels place bounds greys 0 0 body
+pub no_bins : (file : List ℕ) (levels place : ℕ) (bins : List Bin) (body : Body) → bins ≡ [] →
+    body.file.now ≡ file → body.levels ≡ levels → body.place ≡ place + 2 → BinsUpto file levels place bins 0 0 body
 unfolding first_of
-no_bins file levels place bounds greys body none also same levels_are at =
-    record { fine = refl; bounds_are = none; greys_are = also; rises = refl; file_is = same; levels_are = levels_are; reach = omega arith }
+no_bins file levels place bins body none same levels_are at =
+    record { fine = refl; so_far = none; rises = refl; file_is = same; levels_are = levels_are; reach = omega arith }
 
-module _ (file : List ℕ) (levels place : ℕ) (bounds greys : List ℕ) (least i : ℕ) (body : Body) (u : BinsUpto file levels place bounds greys least i body) where
+module _ (file : List ℕ) (levels place : ℕ) (bins : List Bin) (least i : ℕ) (body : Body) (u : BinsUpto file levels place bins least i body) where
+  pub bins_long : length bins ≡ i
+  bins_long = ap length u.so_far ∙ length-map-range_with_len (bin_in file place) 0 i
+
   -- the fault of the next entry
-  pub bin_next : (bins : ℕ) → bins ≡ bins_in file place →
-      part_fault body.file.now 2 body.place 4 (bin_rule body.levels least (eqb (i + 1) bins) (word_at body.file.now body.place) (word_at body.file.now (body.place + 2))) ≡ bin_fault file levels place i
-  bin_next bins e = let a = u.rises in let b = u.file_is in let c = u.levels_are in let d = u.reach in cc
+  pub bin_next : (count : ℕ) → count ≡ bins_in file place →
+      part_fault body.file.now 2 body.place 4 (bin_rule body.levels least (eqb (i + 1) count) (word_at body.file.now body.place) (word_at body.file.now (body.place + 2))) ≡ bin_fault file levels place i
+  bin_next count e = let a = u.rises in let b = u.file_is in let c = u.levels_are in let d = u.reach in cc
 
-  pub bins_more : (then : Body) (bound grey : ℕ) → bin_fault file levels place i ≡ None →
-      bound ≡ word_at body.file.now body.place → grey ≡ word_at body.file.now (body.place + 2) → ReadOn body (body.place + 4) then →
-      BinsUpto file levels place (bounds ++ bound ∷ []) (greys ++ grey ∷ []) (bound + 1) (i + 1) then
-  bins_more then bound grey none bound_is grey_is on =
+  pub bins_more : (then : Body) (bin : Bin) → bin_fault file levels place i ≡ None → GotBin body then bin →
+      BinsUpto file levels place (bins ++ bin ∷ []) (bin.bound + 1) (i + 1) then
+  bins_more then bin none got =
       let a = u.file_is in
       let b = u.reach in
-      let bound_at : bound ≡ bound_in file place i = cc in
-      let grey_at : grey ≡ representative_in file place i = cc in
+      let bound : bin.bound ≡ bound_in file place i = got.0 ∙ ap₂ word_at a b in
+      let grey : bin.representative ≡ representative_in file place i = got.1 ∙ ap₂ (λ (f : List ℕ) (p : ℕ). word_at f (p + 2)) a b in
+      let is : bin ≡ bin_in file place i = ap₂ (λ (x y : ℕ). record { bound = x; representative = y }) bound grey in
       record {
         fine = first_of_more (bin_fault file levels place) i u.fine none;
-        bounds_are = ap₂ (λ (xs : List ℕ) (x : ℕ). xs ++ x ∷ []) u.bounds_are bound_at ∙ sym (first_bins_more (bound_in file place) i);
-        greys_are = ap₂ (λ (xs : List ℕ) (x : ℕ). xs ++ x ∷ []) u.greys_are grey_at ∙ sym (first_bins_more (representative_in file place) i);
-        rises = rw (add-one i) (ap (λ (n : ℕ). n + 1) bound_at);
-        file_is = on.0 ∙ a;
-        levels_are = on.1 ∙ u.levels_are;
-        reach = omega (arith, on.2);
+        so_far = ap₂ (λ (xs : List Bin) (x : Bin). xs ++ x ∷ []) u.so_far is ∙ sym (map-range_with_len_more (bin_in file place) 0 i i (omega arith));
+        rises = rw (add-one i) (ap (λ (n : ℕ). n + 1) bound);
+        file_is = got.3.0 ∙ a;
+        levels_are = got.3.1 ∙ u.levels_are;
+        reach = omega (arith, got.3.2);
       }
+
+-- the table that all bins of a file make
+pub bins_listed : (file : List ℕ) (levels place : ℕ) (bins : List Bin) → bins ≡ first_bins file place (bins_in file place) →
+    given levels (bounds_in bins) (representatives_in bins) ≡ table_in file levels place
+bins_listed file levels place bins e =
+    let all = range_with_len 0 (bins_in file place) in
+    let at = bin_in file place in
+    let bounds = ap bounds_in e ∙ map-map (λ (bin : Bin). bin.bound) at all in
+    let greys = ap representatives_in e ∙ map-map (λ (bin : Bin). bin.representative) at all in
+    ap₂ (given levels) bounds greys
 
 -- a bin's rule, part by part
 pub bin_rules : (levels least : ℕ) (last : Bool) (bound grey : ℕ) → bin_rule levels least last bound grey ≡ true →

@@ -7,13 +7,13 @@ use Rattle.counting.specs.Outputs.{Row}
 use Rattle.counting.specs.Meaning.{ledger_of}
 use Rattle.counting.specs.declared.histogram.Histogram.{Histogram}
 use Rattle.tables.specs.Table.{Table, given}
+use Rattle.tables.specs.Bins.{bounds_in, representatives_in}
 use Rattle.tables.specs.Meaning.{table_of}
+use Rattle.tables.specs.declared.table.Bin.{Bin}
 use Rattle.tables.specs.declared.table.LevelTable.{LevelTable}
 use Rattle.tablefile.specs.declared.fault.NumberFault.{NumberFault}
 use Rattle.tablefile.specs.declared.fault.NumberFault.TheVariants.{CutShort}
 use Rattle.tablefile.specs.declared.body.Body.{Body}
-use Rattle.tablefile.specs.declared.body.BinEntry.{BinEntry}
-use Rattle.tablefile.specs.declared.body.Bins.{Bins}
 use Rattle.tablefile.specs.declared.body.LevelEntry.{LevelEntry}
 use Rattle.tablefile.specs.declared.writer.Writer.{Writer}
 use Rattle.tablefile.specs.Bytes.{bytes_of}
@@ -72,15 +72,15 @@ abbrev pub GotHistogram : Body → Body → Histogram → Type 0
 GotHistogram body then histogram = (ledger_of histogram ≡ ledger_in body.file.now body.levels) × ReadOn body (bins_place body.file.now) then
 
 -- an entry of section 2
-abbrev pub GotBin : Body → Body → BinEntry → Type 0
-GotBin body then entry =
-    (entry.bound ≡ word_at body.file.now body.place) × (entry.representative ≡ word_at body.file.now (body.place + 2))
-    × (entry.bound < body.levels) × ReadOn body (body.place + 4) then
+abbrev pub GotBin : Body → Body → Bin → Type 0
+GotBin body then bin =
+    (bin.bound ≡ word_at body.file.now body.place) × (bin.representative ≡ word_at body.file.now (body.place + 2))
+    × (bin.bound < body.levels) × ReadOn body (body.place + 4) then
 
 -- the entries of section 2
-abbrev pub GotBins : Body → Body → Bins → Type 0
+abbrev pub GotBins : Body → Body → List Bin → Type 0
 GotBins body then bins =
-    (given body.levels bins.bounds.items bins.representatives.items ≡ table_in body.file.now body.levels body.place)
+    (given body.levels (bounds_in bins) (representatives_in bins) ≡ table_in body.file.now body.levels body.place)
     × ReadOn body (bin_place body.place (bins_in body.file.now body.place)) then
 
 -- section 2

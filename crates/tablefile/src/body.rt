@@ -5,7 +5,7 @@ use crate::fault::{BinsFault, FileFault, HeadFault, LevelsFault, NumberFault, Se
 use crate::numbers::{EDITION, number};
 use arrayvec::ArrayVec;
 use counting::Histogram;
-use tables::LevelTable;
+use tables::{Bin, LevelTable};
 
 // A file of so many levels, and the place of the byte that is read next. A part with a fault ends the reading.
 #[derive(Drop)]
@@ -22,20 +22,6 @@ pub(crate) struct Body<'a> {
 struct LevelEntry {
     level: u16,
     pixels: u32,
-}
-
-// An entry of section 2.
-#[derive(Clone, Copy)]
-struct BinEntry {
-    bound: u16,
-    representative: u16,
-}
-
-// The bounds and the representatives of the bins, lowest first: two lists, since a table is made from two.
-#[derive(Drop)]
-struct Bins {
-    bounds: ArrayVec<u16, 256>,
-    representatives: ArrayVec<u16, 256>,
 }
 
 impl<'a> Body<'a> {
@@ -123,7 +109,7 @@ impl<'a> Body<'a> {
     }
 
     // An entry of section 2, with the bound that it has to reach and whether it is the last.
-    fn bin_entry(&mut self, least: u16, last: bool) -> Result<BinEntry, BinsFault>
+    fn bin_entry(&mut self, least: u16, last: bool) -> Result<Bin, BinsFault>
         ensures { Judged (section_row 2) (part_fault self.old.file.now 2 self.old.place 4 (bin_rule self.old.levels least last (word_at self.old.file.now self.old.place) (word_at self.old.file.now (self.old.place + 2)))) (GotBin self.old self.new) result }
     {
         let place = self.place;
@@ -135,45 +121,37 @@ impl<'a> Body<'a> {
         {
             return Err(BinsFault::Rule { place });
         }
-        Ok(BinEntry {
+        Ok(Bin {
             bound,
             representative,
         })
     }
 
     // The entries of section 2.
-    fn bins(&mut self) -> Result<Bins, BinsFault>
-        ensures { Judged (section_row 2) (bins_fault self.old.file.now self.old.levels self.old.place) (GotBins self.old self.new) result }
+    fn bins(&mut self) -> Result<ArrayVec<Bin, 256>, BinsFault>
+        ensures { Judged (section_row 2) (bins_fault self.old.file.now self.old.levels self.old.place) (λ bins. GotBins self.old self.new bins.items) result }
     {
         let place = self.place;
         let count = u16::from_be_bytes(self.number()?);
         if !(1..=256).contains(&count) || count > self.levels {
             return Err(BinsFault::Rule { place });
         }
-        let mut bounds = ArrayVec::new();
-        let mut representatives = ArrayVec::new();
+        let mut bins = ArrayVec::new();
         let mut least = 0;
         for i in 0..count {
-            let entry = self.bin_entry(least, i + 1 == count)?;
-            bounds.push(entry.bound);
-            representatives.push(entry.representative);
-            least = entry.bound + 1;
+            let bin = self.bin_entry(least, i + 1 == count)?;
+            bins.push(bin);
+            least = bin.bound + 1;
         }
-        Ok(Bins {
-            bounds,
-            representatives,
-        })
+        Ok(bins)
     }
 
     // Section 2.
     pub(crate) fn table(&mut self) -> Result<LevelTable, BinsFault>
         ensures { Judged (section_row 2) (bins_fault self.old.file.now self.old.levels self.old.place) (GotTable self.old self.new) result }
     {
-        let Bins {
-            bounds,
-            representatives,
-        } = self.bins()?;
-        match LevelTable::of(self.levels, &bounds, &representatives) {
+        let bins = self.bins()?;
+        match LevelTable::of_bins(self.levels, &bins) {
             Some(table) => Ok(table),
             None => unreachable(),
         }

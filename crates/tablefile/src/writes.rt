@@ -62,9 +62,8 @@ impl Writer<'_> {
         requires { self.old.place + 4 * length (table_of table.now).bounds ≤ length self.old.out.now }
         ensures { Puts self.old (flat_map (bin_bytes (table_of table.now)) (range_with_len 0 (length (table_of table.now).bounds))) self.new }
     {
-        // by number, since a table lends no list of its bins
-        for bin in 0..table.bins() {
-            self.put_bin(table.bound(bin), table.representative(bin));
+        for bin in table.as_slice() {
+            self.put_bin(bin.bound, bin.representative);
         }
     }
 }
