@@ -1,15 +1,17 @@
 -- Bytes written one part after the other, and how many bytes a pair has.
-use Rattle.std.proofs.Common.{◌≡◌, ℕ, zero, suc, ◌+◌, ◌*◌, ◌/◌, ◌%◌, ◌^◌, ◌<◌, ◌≤◌, Bool, ltb, List, [], ◌∷◌, ◌++◌, length, take, drop, Some, None, count_by, sym, refl, ap, ◌∙◌, subst, ap₂, inl, inr, mul-zero, mul-suc, add-one, arith, length-append, take_all}
+use Rattle.std.proofs.Common.{◌≡◌, ℕ, zero, suc, ◌+◌, ◌*◌, ◌/◌, ◌%◌, ◌^◌, ◌<◌, ◌≤◌, Bool, ltb, List, [], ◌∷◌, ◌++◌, length, get_or, take, drop, Some, None, count_by, sym, refl, ap, ◌∙◌, subst, ap₂, inl, inr, mul-zero, mul-suc, add-one, arith, length-append, take_all}
 use lib.Seq.{paste}
 use Rattle.std.specs.List.{range_with_len, flat_map}
 use Rattle.std.proofs.lemmas.List.Edits.{paste_none, paste-paste, paste_all}
-use Rattle.std.proofs.lemmas.List.{append_assoc, flat_map_more, length_push}
+use Rattle.std.proofs.lemmas.List.{get_or-map, length-map, append_assoc, flat_map_more, length_push}
 use Rattle.std.proofs.lemmas.List.Sums.{count_by_more_yes, count_by_more_no}
 use Rattle.std.proofs.lemmas.List.FromFn.{length-range_with_len}
 use Rattle.std.proofs.lemmas.Bool.{cases_Bool, lt-ltb, le-ltb, eq-eqb}
 use Rattle.counting.specs.Ledger.{Ledger, pixels_at, counted_levels}
 use Rattle.counting.specs.Outputs.{over}
 use Rattle.tables.specs.Table.{Table}
+use Rattle.tables.specs.Bins.{bounds_in, representatives_in}
+use Rattle.tables.specs.declared.table.Bin.{Bin}
 use Rattle.tablefile.specs.Bytes.{head_bytes, counted_below, counted_of, level_bytes, levels_bytes, bin_bytes, bins_bytes, bytes_of}
 use Rattle.tablefile.specs.Numbers.{word, long}
 use Rattle.tablefile.specs.Parts.{Puts}
@@ -90,25 +92,30 @@ module _ (g : Ledger) (writer : Writer) (room : writer.place + 6 * length (count
     pub level_skipped : pixels_at g level ≤ 0 → Puts writer (entries_below (level + 1)) mid
     level_skipped none = put_same writer mid _ _ (ap (flat_map (level_bytes g)) (sym (kept_no passes level (le-ltb _ _ none)))) put
 
--- the entries of one bin more
-module _ (t : Table) (writer : Writer) (room : writer.place + 4 * length t.bounds ≤ length writer.out.now) where
-  abbrev bins_below : ℕ → List ℕ
-  bins_below bin = flat_map (bin_bytes t) (range_with_len 0 bin)
+-- the entries of one bin more, where the table's bins are those of a list
+module _ (t : Table) (writer : Writer) (room : writer.place + 4 * length t.bounds ≤ length writer.out.now)
+    (bins : List Bin) (bounds : bounds_in bins ≡ t.bounds) (greys : representatives_in bins ≡ t.representatives) where
+  abbrev entries_upto : ℕ → List ℕ
+  entries_upto i = flat_map (bin_bytes t) (range_with_len 0 i)
 
-  module _ (mid : Writer) (bin : ℕ) (put : Puts writer (bins_below bin) mid) (within : bin < length t.bounds) where
-    bins_so_far : length (bins_below bin) ≡ 4 * bin
-    bins_so_far = let many = length-range_with_len 0 bin in let long = joined_long (bin_bytes t) 4 (λ x. refl) (range_with_len 0 bin) in omega arith
+  module _ (mid : Writer) (i : ℕ) (put : Puts writer (entries_upto i) mid) (within : i < length bins) where
+    bins_so_far : (length (entries_upto i) ≡ 4 * i) × (i < length t.bounds)
+    bins_so_far =
+        let many = length-range_with_len 0 i in
+        let long = joined_long (bin_bytes t) 4 (λ x. refl) (range_with_len 0 i) in
+        let as_many = sym (ap length bounds) ∙ length-map bins (λ (bin : Bin). bin.bound) in
+        (omega arith, omega arith)
 
     pub bin_room : mid.place + 4 ≤ length mid.out.now
-    bin_room =
-        let long = bins_so_far in
-        omega (arith, put.1, put.2)
+    bin_room = omega (arith, bins_so_far, put.1, put.2)
 
-    pub bin_put : (then : Writer) → Puts mid (bin_bytes t bin) then → Puts writer (bins_below (bin + 1)) then
-    bin_put then more =
-        let long = bins_so_far in
-        put_same writer then _ _ (flat_map_more (bin_bytes t) [] (range_with_len 0 bin) bin ∙ ap (flat_map (bin_bytes t)) (sym (counting_more bin)))
-        (put_put writer mid then (bins_below bin) (bin_bytes t bin) (omega arith) put more)
+    pub bin_put : (then : Writer) (d : Bin) → Puts mid (word (get_or bins i d).bound ++ word (get_or bins i d).representative) then → Puts writer (entries_upto (i + 1)) then
+    bin_put then d more =
+        let bound = sym (get_or-map (λ (bin : Bin). bin.bound) bins i d 0 within) ∙ ap (λ (xs : List ℕ). get_or xs i 0) bounds in
+        let grey = sym (get_or-map (λ (bin : Bin). bin.representative) bins i d 0 within) ∙ ap (λ (xs : List ℕ). get_or xs i 0) greys in
+        let entry = put_same mid then _ (bin_bytes t i) (ap₂ (λ (b r : ℕ). word b ++ word r) bound grey) more in
+        put_same writer then _ _ (flat_map_more (bin_bytes t) [] (range_with_len 0 i) i ∙ ap (flat_map (bin_bytes t)) (sym (counting_more i)))
+        (put_put writer mid then (entries_upto i) (bin_bytes t i) (omega (arith, bins_so_far)) put entry)
 
 -- how many levels have pixels, counted on the levels and on their pixels
 counted_upto : (g : Ledger) (k : ℕ) → k ≤ length g.at → count_by (ltb 0) (take k g.at) ≡ length (counted_below g k)

@@ -1,8 +1,7 @@
-use Rattle.std.proofs.Common.{◌≡◌, ℕ, ◌+◌, length, List, refl, sym, ap, ◌∙◌, subst, ap₂, arith, lit<}
+use Rattle.std.proofs.Common.{◌≡◌, ℕ, refl, sym, ◌∙◌, subst, arith, lit<}
 use Rattle.std.proofs.lemmas.Bool.Decides.{nat_tests}
-use Rattle.tables.specs.Table.{given}
 use Rattle.tablefile.specs.Rows.{section_row}
-use Rattle.tablefile.specs.Fields.{bins_in, bound_in, representative_in}
+use Rattle.tablefile.specs.Fields.{bins_in}
 use Rattle.tablefile.specs.Faults.{bin_fault}
 use Rattle.tablefile.proofs.Faults.{judged_err, judged_same, cut_row, bins_cut, bins_many, bins_entries, first_of_stops}
 use Rattle.tablefile.proofs.Bins.{BinsUpto, bins_long, no_bins, bin_next, bins_more, bins_listed}

@@ -1,4 +1,4 @@
-use Rattle.std.proofs.Common.{ℕ, List, sym, ap, ◌∙◌, subst, ap₂}
+use Rattle.std.proofs.Common.{sym, ◌∙◌, subst, ap₂}
 use Rattle.tables.specs.Table.{Lawful}
 use Rattle.tables.specs.Bins.{table_in}
 use Rattle.tablefile.proofs.Faults.{bins_none}
