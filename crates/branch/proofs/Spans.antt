@@ -1,8 +1,14 @@
--- The levels of a bin: where they begin and end, and that they have no more pixels than all levels.
-use Rattle.std.proofs.Common.{◌≡◌, ℕ, zero, suc, ◌+◌, ◌-◌, ◌<◌, ◌≤◌, List, length, drop, sum, slice_range, ap, add-one, arith}
+-- The levels of a bin: where they begin and end, which part of the histogram's list has their pixels, and that these are no more than all.
+use Rattle.std.proofs.Common.{◌≡◌, ℕ, zero, suc, ◌+◌, ◌-◌, ◌<◌, ◌≤◌, List, length, drop, sum, slice_range, sym, ap, add-one, arith}
 use Rattle.std.proofs.lemmas.List.Sums.{sum_by-take-drop, sum_by-take-le}
+use Rattle.std.proofs.lemmas.Simd.{pick_l-range_with_len}
+use Rattle.counting.specs.Ledger.{Ledger}
 use Rattle.tables.specs.Table.{Table, Lawful, bound_of}
-use Rattle.branch.specs.Report.{first_of}
+use Rattle.branch.specs.Report.{first_of, pixels_between}
+
+-- the part of a ledger's list from `first` to `last` has the pixels of its levels, one by one
+pub part_is : (g : Ledger) (first last : ℕ) → first ≤ last + 1 → last < length g.at → sum (slice_range g.at first (last + 1)) ≡ pixels_between g first last
+part_is g first last begins below = ap sum (sym (pick_l-range_with_len 0 g.at first (last + 1 - first) (omega arith)))
 
 pub part_le : (xs : List ℕ) (from to : ℕ) → sum (slice_range xs from to) ≤ sum xs
 part_le xs from to = omega (arith, sum_by-take-drop (λ x. x) xs from, sum_by-take-le (λ x. x) (drop from xs) (to - from))

@@ -1,8 +1,8 @@
 -- What the branch program prints for its input: the numbers of the input, the calls that they ask for, and the text.
-use Rattle.std.specs.Prelude.{◌≡◌, ℕ, zero, suc, ◌+◌, ◌*◌, ◌%◌, Bool, ◌||◌, List, [], ◌∷◌, ◌++◌, length, drop, Some, codes, decimal, MatchBool, sum, Option, MatchOption, ◌==◌, nat_lt, slice_index, slice_range}
+use Rattle.std.specs.Prelude.{◌≡◌, ℕ, zero, suc, ◌+◌, ◌-◌, ◌*◌, ◌%◌, Bool, ◌||◌, List, [], ◌∷◌, ◌++◌, map, length, drop, Some, codes, decimal, MatchBool, sum, Option, MatchOption, ◌==◌, nat_lt, slice_index}
 use Rattle.std.specs.List.{range_with_len, flat_map}
 use Rattle.std.specs.Option.{option_map}
-use Rattle.counting.specs.Ledger.{Ledger, Asked, opened, counted, Told, done, now_total, refused, after, told}
+use Rattle.counting.specs.Ledger.{Ledger, pixels_at, Asked, opened, counted, Told, done, now_total, refused, after, told}
 use Rattle.counting.specs.Outputs.{Row}
 use Rattle.pricing.specs.Kinds.{total_ops}
 use Rattle.pricing.specs.Measures.{squared}
@@ -35,7 +35,7 @@ first_of t (suc bin) = bound_of t bin + 1
 
 -- the pixels at the levels from `first` to `last`, both included
 abbrev pub pixels_between : Ledger → ℕ → ℕ → ℕ
-pixels_between g first last = sum (slice_range g.at first (last + 1))
+pixels_between g first last = sum (map (pixels_at g) (range_with_len first (last + 1 - first)))
 
 -- the line of a bin: its first level, its bound, its representative, and the pixels that it holds
 abbrev pub bin_line : Ledger → Table → ℕ → List ℕ
