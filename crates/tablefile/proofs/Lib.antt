@@ -9,3 +9,4 @@ mod Writing
 mod Pairs
 mod Meaning
 mod Back
+pub mod There

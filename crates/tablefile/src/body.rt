@@ -102,10 +102,8 @@ impl<'a> Body<'a> {
         ensures { Judged (section_row 1) (levels_fault self.old.file.now self.old.levels) (GotHistogram self.old self.new) result }
     {
         let pixels = self.pixels()?;
-        match Histogram::of(&pixels[..usize::from(self.levels)]) {
-            Some(histogram) => Ok(histogram),
-            None => unreachable(),
-        }
+        // The levels are 2 to 1,024, and no entry has taken the total past its limit.
+        Ok(Histogram::of(&pixels[..usize::from(self.levels)]).unwrap())
     }
 
     // An entry of section 2, with the bound that it has to reach and whether it is the last.
@@ -151,10 +149,8 @@ impl<'a> Body<'a> {
         ensures { Judged (section_row 2) (bins_fault self.old.file.now self.old.levels self.old.place) (GotTable self.old self.new) result }
     {
         let bins = self.bins()?;
-        match LevelTable::of_bins(self.levels, &bins) {
-            Some(table) => Ok(table),
-            None => unreachable(),
-        }
+        // Each entry has kept the rules of a table.
+        Ok(LevelTable::of_bins(self.levels, &bins).unwrap())
     }
 
     // That nothing is left to read, or the place of the next byte.
