@@ -1,6 +1,5 @@
 -- Each turn appends the line of one bin.
-use Rattle.std.proofs.Common.{◌≡◌, ℕ, length, ap, ◌∙◌, arith}
-use Rattle.std.specs.List.{range_with_len, flat_map}
+use Rattle.std.proofs.Common.{arith}
 use Rattle.counting.specs.Meaning.{ledger_of}
 use Rattle.tables.proofs.Bins.{lawful_table}
 use Rattle.tables.specs.Meaning.{table_of}
@@ -25,8 +24,3 @@ loop-bin-preserved c = record {
       cc;
   begins = next_first (table_of c.args.self.now.table.now) c.loop-bin.bin c.bound-first.result c.bound-first.ensures;
 }
-
-pub returns : goal.returns
-returns c =
-    let all : c.loop-bin.bin ≡ length (table_of c.args.self.now.table.now).bounds = omega arith in
-    c.loop-bin.invariant.lines ∙ ap (λ (bins : ℕ). flat_map (bin_line (ledger_of c.args.self.now.histogram.now) (table_of c.args.self.now.table.now)) (range_with_len 0 bins)) all
