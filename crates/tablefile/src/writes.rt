@@ -48,7 +48,7 @@ impl Writer<'_> {
         }
     }
 
-    // An entry of section 2.
+    // An entry of section 2, as two numbers: a proof knows that each fits its type, and does not of the fields of a `Bin`.
     fn put_bin(&mut self, bound: u16, representative: u16)
         requires { self.old.place + 4 ≤ length self.old.out.now }
         ensures { Puts self.old (word bound ++ word representative) self.new }
