@@ -106,7 +106,8 @@ impl<'a> Body<'a> {
         Ok(Histogram::of(&pixels[..usize::from(self.levels)]).unwrap())
     }
 
-    // An entry of section 2, with the bound that it has to reach and whether it is the last.
+    // An entry of section 2, with the bound that it has to reach and whether it is the last, which is a fact about the entry: the last
+    // has one rule more.
     fn bin_entry(&mut self, least: u16, last: bool) -> Result<Bin, BinsFault>
         ensures { Judged (section_row 2) (part_fault self.old.file.now 2 self.old.place 4 (bin_rule self.old.levels least last (word_at self.old.file.now self.old.place) (word_at self.old.file.now (self.old.place + 2)))) (GotBin self.old self.new) result }
     {
@@ -136,6 +137,7 @@ impl<'a> Body<'a> {
         }
         let mut bins = ArrayVec::new();
         let mut least = 0;
+        // by number, which tells the last entry
         for i in 0..count {
             let bin = self.bin_entry(least, i + 1 == count)?;
             bins.push(bin);

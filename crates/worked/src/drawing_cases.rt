@@ -30,8 +30,7 @@ fn nine_pixels() -> Result<Histogram, Fail> {
 
 fn check_bins(rt: &impl Abort, table: &LevelTable, bins: &[Bin]) -> Result<(), Fail> {
     assert_eq!(rt; usize::from(table.bins()), bins.len());
-    for (bin, expected) in bins.iter().enumerate() {
-        let bin = u16::try_from(bin)?;
+    for (bin, expected) in (0..).zip(bins) {
         assert_eq!(rt; (table.bound(bin), table.representative(bin)), *expected);
     }
     Ok(())

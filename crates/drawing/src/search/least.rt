@@ -1,5 +1,6 @@
 // The least tallies of the first counted levels in each number of runs, cell by cell.
-// `HasRoom` and `Filled` stand in each contract anew: they tie the search to the lists, and neither type holds the other.
+// `HasRoom`, `Filled` and that a run ends at a counted level stand in each contract anew: they tie a search to the lists or to a run,
+// and none of these types holds another.
 ghost use Rattle.std.specs.Prelude.{◌≡◌, ℕ, Bool, ◌+◌, ◌-◌, ◌*◌, ◌<◌, ◌≤◌, max, length};
 ghost use Rattle.pricing.specs.Errors.{SameErrors};
 ghost use Rattle.divisions.specs.Divisions.{price};
