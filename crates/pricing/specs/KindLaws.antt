@@ -1,6 +1,6 @@
 -- The laws of the kinds of tally.
-use Rattle.std.specs.Prelude.{◌≡◌, ℕ, ◌^◌, ◌<◌}
-use Rattle.std.proofs.Common.{inl, inr, arith, rules, mul-le-mul_left}
+use Rattle.std.specs.Prelude.{◌≡◌, ℕ, ◌*◌, ◌^◌, ◌<◌}
+use Rattle.std.proofs.Common.{ap₂, ◌∙◌, inl, inr, arith, rules, mul-le-mul_left}
 use mathlib.Core.HLevel.{is_prop→PathP}
 use Rattle.std.proofs.Math.Bridge.{le_prop}
 use Rattle.std.proofs.lemmas.Bool.{leb-true, le-leb, cases_lt}
@@ -15,6 +15,9 @@ same_total p q e = λ i. record { sum = e i; fits = is_prop→PathP (λ j. e j <
 -- a number that fits is held as it is
 pub held_is : (p : Total) (n : ℕ) → p.sum ≡ n → p ≡ held n
 held_is p n e = same_total p (held n) (omega (arith, p.fits))
+
+pub product_is : (p : Total) (m n x y : ℕ) → p.sum ≡ x * y → x ≡ m → y ≡ n → p ≡ held (m * n)
+product_is p m n x y e a b = held_is p (m * n) (e ∙ ap₂ (λ (u v : ℕ). u * v) a b)
 
 pub total_laws : Laws total_ops
 total_laws = record {

@@ -1,9 +1,9 @@
 -- A layer keeps the laws of the measure below it: shown once, of any change of the error that rises with
 -- the error, leaves none where there was none, and fits.
 use Rattle.std.specs.Prelude.{◌≡◌, ℕ, ◌-◌, ◌*◌, ◌^◌, ◌<◌, ◌≤◌, min, List}
-use Rattle.std.proofs.Common.{ap, ◌∙◌, inl, inr, arith, mul-le-mul_left}
+use Rattle.std.proofs.Common.{ap, ap₂, ◌∙◌, inl, inr, arith, mul-le-mul_left}
 use Rattle.std.proofs.lemmas.Bool.{cases_lt}
-use Rattle.pricing.specs.Errors.{Fair}
+use Rattle.pricing.specs.Errors.{Fair, SameErrors}
 use Rattle.pricing.specs.Measures.{weight_at, weighed, allowed, capped}
 
 -- what a layer makes of the error e of showing the level k
@@ -23,6 +23,10 @@ layer_fair φ error C F = record {
     lower : (k s r : ℕ) → φ k (error k s) < φ k (error k r) → error k s < error k r
     lower k s r h = elim (cases_lt (error k s) (error k r)) [ inl l ↦ l | inr l ↦ absurd (omega (arith, C.rises k _ _ l)) ]
 
+-- a layer's meaning changes no more than that of the measure below it
+pub layer_same : (φ : ℕ → ℕ → ℕ) (error other : ℕ → ℕ → ℕ) → SameErrors error other → SameErrors (λ k r. φ k (error k r)) (λ k r. φ k (other k r))
+layer_same φ error other S k r a b = ap (φ k) (S k r a b)
+
 weigh : List ℕ → ℕ → ℕ → ℕ
 weigh weights k e = min (weight_at weights k * e) 4294967295
 
@@ -38,8 +42,17 @@ pub weighed_fair : (weights : List ℕ) (error : ℕ → ℕ → ℕ) → Fair e
 unfolding weigh
 weighed_fair weights error F = layer_fair (weigh weights) error (weigh_change weights) F
 
+pub weighed_same : (weights : List ℕ) (error other : ℕ → ℕ → ℕ) → SameErrors error other → SameErrors (weighed weights error) (weighed weights other)
+unfolding weigh
+weighed_same weights error other S = layer_same (weigh weights) error other S
+
 pub allowed_fair : (t : ℕ) (error : ℕ → ℕ → ℕ) → Fair error → Fair (allowed t error)
 allowed_fair t error F = layer_fair (λ _ e. e - t) error (record { rises = (λ k d e h. omega arith); none = (λ k. omega arith); fits = (λ k e h. omega arith) }) F
 
 pub capped_fair : (t : ℕ) (error : ℕ → ℕ → ℕ) → Fair error → Fair (capped t error)
 capped_fair t error F = layer_fair (λ _ e. min e t) error (record { rises = (λ k d e h. omega arith); none = (λ k. omega arith); fits = (λ k e h. omega arith) }) F
+
+-- the product of a weight and an error that were read
+pub weighed_is : (weights : List ℕ) (error : ℕ → ℕ → ℕ) (k r j w x e v : ℕ) →
+    j ≡ k → w ≡ weight_at weights j → x ≡ w → e ≡ error k r → v ≡ min (x * e) 4294967295 → v ≡ weighed weights error k r
+weighed_is weights error k r j w x e v p q s t u = u ∙ ap₂ (λ (a b : ℕ). min (a * b) 4294967295) (s ∙ q ∙ ap (weight_at weights) p) t
