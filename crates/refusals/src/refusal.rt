@@ -6,49 +6,48 @@ use thiserror::Error;
 
 #[derive(Clone, Copy, PartialEq, Eq, Debug, Error)]
 pub enum Refusal {
-    // 1: the number of levels asked for is not from 2 to 1,024
+    // the number of levels asked for is not from 2 to 1,024
     #[error("{}, {levels} is no number of levels from 2 to 1024", self.number())]
     LevelsOutOfRange { levels: u16 },
-    // 2: the first place of a pixel that is not a level
+    // the first place of a pixel that is not a level
     #[error("{}, the pixel at place {place} is not a level", self.number())]
     NotALevel { place: usize },
-    // 3: the total before the row that would pass 4,294,967,295
+    // the total before the row that would pass 4,294,967,295
     #[error("{}, with {total} pixels counted the row would pass 4294967295", self.number())]
     TotalTooLarge { total: u32 },
-    // 4: the lowest level that would go below zero
+    // the lowest level that would go below zero
     #[error("{}, level {level} has too few pixels to take off", self.number())]
     LevelBelowZero { level: u16 },
-    // 5: the number of bins asked for is not from 1 to 256
+    // the number of bins asked for is not from 1 to 256
     #[error("{}, {most} is no number of bins from 1 to 256", self.number())]
     BinsOutOfRange { most: u16 },
-    // 6: no pixel is counted
     #[error("{}, no pixel is counted", self.number())]
     NoPixels,
-    // 7: the cells that a work list needs
+    // the cells that a work list needs
     #[error("{}, each work list needs {needed} cells", self.number())]
     WorkTooShort { needed: usize },
-    // 8: the numbers of levels of a histogram and of a table, which differ
+    // the numbers of levels of a histogram and of a table, which differ
     #[error("{}, the histogram has {histogram} levels and the table {table}", self.number())]
     LevelsDiffer { histogram: u16, table: u16 },
-    // 9: the first place of an index that is no bin's
+    // the first place of an index that is no bin's
     #[error("{}, the index at place {place} is no bin's", self.number())]
     NotABin { place: usize },
-    // 10: the length that the output needs
+    // the length that the output needs
     #[error("{}, the output needs {needed} cells", self.number())]
     OutputTooShort { needed: usize },
-    // 11: the length of a weight list, which is not from 1 to 1,024
+    // the length of a weight list, which is not from 1 to 1,024
     #[error("{}, a weight list of {length} bytes is not of 1 to 1024", self.number())]
     WeightsOutOfRange { length: usize },
-    // 12: the edition byte of a table file, which is not 5
+    // the edition byte of a table file, which is not 5
     #[error("{}, edition {edition} is not 5", self.number())]
     UnknownEdition { edition: u8 },
-    // 13: the section in which a table file ends early, and the file's length
+    // the section in which a table file ends early, and the file's length
     #[error("{}, the file of {length} bytes ends early, in section {section}", self.number())]
     EndsEarly { section: u8, length: usize },
-    // 14: the section of a number or an entry that breaks a rule, and the place of its first byte
+    // the section of a number or an entry that breaks a rule, and the place of its first byte
     #[error("{}, what stands at byte {place} of the file, in section {section}, breaks a rule", self.number())]
     RuleBroken { section: u8, place: usize },
-    // 15: the place of the first byte after the last section
+    // the place of the first byte after the last section
     #[error("{}, the file goes on at byte {place}, after its last section", self.number())]
     BytesLeftOver { place: usize },
 }

@@ -26,7 +26,7 @@ pub fn first_no_level(levels: u16, row: &[u16]) -> Option<usize>
 }
 
 // The total with more pixels, if it is at most 4,294,967,295.
-fn grown(total: u32, more: usize) -> Option<u32>
+fn total_with(total: u32, more: usize) -> Option<u32>
     ensures { SomeIff result (total + more ≤ 4294967295) (total + more) }
 {
     total.checked_add(u32::try_from(more).ok()?)
@@ -82,9 +82,10 @@ impl Histogram {
         if let Some(place) = first_no_level(self.levels, row) {
             return Err(Refusal::NotALevel { place });
         }
-        let Some(total) = grown(self.total, row.len()) else {
+        let Some(total) = total_with(self.total, row.len()) else {
             return Err(Refusal::TotalTooLarge { total: self.total });
         };
+        // On a copy, and written whole: a change that is stopped on the way leaves no trace.
         let mut grown = self.pixels;
         add_row(&mut grown, row);
         *self = Histogram {
@@ -106,7 +107,7 @@ impl Histogram {
         if let Some(level) = take_row(&mut left, row) {
             return Err(Refusal::LevelBelowZero { level });
         }
-        // No longer than the total, since each level had enough: `TryFrom` would add an answer that never comes.
+        // The cast loses nothing, which is proved: each level had enough, so the row is no longer than the total.
         let total = self.total - row.len() as u32;
         *self = Histogram {
             pixels: left,

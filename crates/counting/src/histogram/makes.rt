@@ -36,7 +36,7 @@ impl Histogram {
         Some(Histogram {
             pixels: padded(pixels),
             total,
-            // at most 1,024, and so no `TryFrom`
+            // The cast loses nothing, which is proved: at most 1,024.
             levels: pixels.len() as u16,
         })
     }

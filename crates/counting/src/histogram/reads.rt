@@ -1,5 +1,6 @@
-// A fresh histogram, and what can be read off one. A place among the levels is at most 1,023 and a number of them at most 1,024, so
-// neither loses anything as a `u16`; `TryFrom` would add an answer that never comes.
+// A fresh histogram, and what can be read off one.
+// The casts lose nothing, which is proved: there are at most 1,024 levels. (A search over the levels themselves would need no cast,
+// but a proof about each call of `pixels_at`.)
 ghost use Rattle.std.specs.Prelude.{◌≡◌, ◌≤◌};
 ghost use Rattle.counting.specs.Ledger.{blank, fresh_ledger, total_of, pixels_at, counted_levels};
 ghost use Rattle.counting.specs.Extremes.{Darkest, Palest};

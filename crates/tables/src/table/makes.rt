@@ -44,7 +44,7 @@ fn bins_of_levels(bins: &[Bin]) -> [u8; 1024]
     let mut first = 0;
     for (index, bin) in bins.iter().enumerate() {
         let next = usize::from(bin.bound) + 1;
-        // at most 255, as there are at most 256 bins
+        // The cast loses nothing, which is proved: there are at most 256 bins.
         of_level[first..next].fill(index as u8);
         first = next;
     }

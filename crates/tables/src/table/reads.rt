@@ -13,7 +13,7 @@ impl LevelTable {
         self.levels
     }
 
-    // The number of bins, which are at most 256: `TryFrom` would add an answer that never comes.
+    // The number of bins. The cast loses nothing, which is proved: there are at most 256.
     pub fn bins(&self) -> u16
         ensures { result ≡ length (table_of self.now).bounds }
     {

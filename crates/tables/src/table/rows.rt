@@ -1,5 +1,6 @@
-// Rows of pixels turned into bin indices, and indices into greys. After a loop over `iter_mut` a proof knows none of the
-// cells, so outputs are written by index. Indexing and showing share no function: its contract would be longer than both.
+// Rows of pixels turned into bin indices, and indices into greys.
+// By index: a proof knows nothing of what was written through `iter_mut`. Indexing and showing share no function: it would take a
+// closure that may be called only at the row's items, and its contract would be longer than both loops.
 ghost use Rattle.std.specs.Prelude.{◌≡◌, ℕ, ◌<◌, length, MatchOption, nat_lt};
 ghost use Rattle.std.specs.List.{prefix_len};
 ghost use Rattle.counting.specs.Outputs.{Wrote};
@@ -10,7 +11,8 @@ use super::LevelTable;
 use counting::first_no_level;
 use refusals::Refusal;
 
-// The first place of an index that is not below `bins`.
+// The first place of an index that is not below `bins`. One search over bytes and pixels would need a trait that says which number
+// an item is.
 fn first_no_bin(bins: u16, indices: &[u8]) -> Option<usize>
     ensures { MatchOption result (prefix_len (λ i. nat_lt i bins) indices.now ≡ length indices.now) (λ place. (place ≡ prefix_len (λ i. nat_lt i bins) indices.now) × (place < length indices.now)) }
 {

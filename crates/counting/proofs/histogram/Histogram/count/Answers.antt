@@ -10,7 +10,7 @@ add_row-requires c =
     let levels = c.in_default.ensures in
     record {
       levels = row_fits self c.args.row.now levels;
-      room = omega (arith, c.in-Some-grown.ensures, all_pixels self c.args.row.now levels);
+      room = omega (arith, c.in-Some-total_with.ensures, all_pixels self c.args.row.now levels);
     }
 
 pub invariant_of-self : goal.invariant_of-self
@@ -19,12 +19,12 @@ invariant_of-self c =
     let row = c.args.row.now in
     let levels = c.in_default.ensures in
     let new = c.add_row.new.pixels in
-    let total : c.in-Some-grown.total ≡ sum new = omega (arith, c.in-Some-grown.ensures, all_pixels self row levels, c.add_row.ensures.all) in
+    let total : c.in-Some-total_with.total ≡ sum new = omega (arith, c.in-Some-total_with.ensures, all_pixels self row levels, c.add_row.ensures.all) in
     record {
       range = self.range;
       width = c.add_row.array_long;
       balance = new_balance self row levels ◌+◌ refl new c.add_row.array_long c.add_row.ensures.each _ total;
-      fits = omega (arith, c.in-Some-grown.ensures);
+      fits = omega (arith, c.in-Some-total_with.ensures);
       past = new_past self row levels ◌+◌ refl new c.add_row.array_long c.add_row.ensures.each;
     }
 
@@ -34,12 +34,12 @@ returns c =
     let row = c.args.row.now in
     let levels = c.in_default.ensures in
     let new = c.add_row.new.pixels in
-    let total : c.in-Some-grown.total ≡ sum new = omega (arith, c.in-Some-grown.ensures, all_pixels self row levels, c.add_row.ensures.all) in
-    let accepted = counted_accepted (ledger_of self) row levels (omega (arith, self.balance, c.in-Some-grown.ensures)) in
+    let total : c.in-Some-total_with.total ≡ sum new = omega (arith, c.in-Some-total_with.ensures, all_pixels self row levels, c.add_row.ensures.all) in
+    let accepted = counted_accepted (ledger_of self) row levels (omega (arith, self.balance, c.in-Some-total_with.ensures)) in
     let changed = new_levels self row levels ◌+◌ refl new c.add_row.array_long c.add_row.ensures.each in
     let balance = new_balance self row levels ◌+◌ refl new c.add_row.array_long c.add_row.ensures.each _ total in
     record {
-      ledger = row_ledger (ledger_of self) (counted row) ◌+◌ row new c.in-Some-grown.total accepted changed balance;
-      answer = row_answer (ledger_of self) (counted row) ◌+◌ row new c.in-Some-grown.total accepted changed balance;
+      ledger = row_ledger (ledger_of self) (counted row) ◌+◌ row new c.in-Some-total_with.total accepted changed balance;
+      answer = row_answer (ledger_of self) (counted row) ◌+◌ row new c.in-Some-total_with.total accepted changed balance;
       unaltered = tt;
     }
