@@ -43,14 +43,14 @@ def functions():
             plain = re.sub(r"^\s*(?:requires|ensures)[^\n]*$", "", whole, flags=re.M)
             plain = re.sub(r"//[^\n]*", "", plain)
             head, _, body = plain.partition("{\n")
-            parameters = re.findall(r"(\w+): ((?:&'?\w* ?(?:mut )?)?[\w:<>\[\]; ,']+?)(?=,|\)|\n)", head)
+            parameters = [p for p in re.findall(r"(\w+): ((?:&'?\w* ?(?:mut )?)?[\w:<>\[\]; ,']+?)(?=,|\)|\n)", head) if p[0].islower()]
             yield f"{f.relative_to(root)}: {m.group(2)}", m.group(2), parameters, clauses, body
             i = end + 1
 
 
 # 1. own enums, a bool in place of a value, numbers in place of kinds
 show("1 own enums", grep(r"^\s*(pub(\([a-z]+\))? )?enum "))
-show("1 flags and numbers as answers", grep(r"-> (io::Result<bool>|Drawn|u16 \{?$)", None) + grep(r"refusal: u16"))
+show("1 flags and numbers as answers", grep(r"-> io::Result<bool>|-> Drawn$|refusal: u16|\breturn 0;|return u16::from"))
 
 # 2. functions of one shape: names, numbers and types of numbers left out
 shapes = collections.defaultdict(list)
