@@ -7,8 +7,7 @@ use Rattle.tablefile.specs.Fields.{levels_in, counted_in, bins_place, bins_in, b
 use Rattle.tablefile.specs.Faults.{first, first_of, part_fault, edition_fault, head_fault, level_fault, levels_fault, bin_fault, bins_fault, rest_fault, first_fault}
 use Rattle.tablefile.specs.Rows.{number_row}
 use Rattle.tablefile.specs.Parts.{Judged}
-use Rattle.tablefile.specs.declared.fault.NumberFault.{NumberFault}
-use Rattle.tablefile.specs.declared.fault.NumberFault.TheVariants.{CutShort}
+use Rattle.tablefile.specs.declared.fault.CutShort.{CutShort}
 
 -- the exit of a `?`, where the fault goes into another as the same row
 pub judged_err : {X E : Type 0} (row : E → Row) (fault : Option Row) (P : X → Type 0) (r : Result X E) (x : Row) → IsErrAnd r (λ y. row y ≡ x) → fault ≡ Some x → Judged row fault P r
@@ -106,8 +105,8 @@ first_of_fine fault zero all = refl
 first_of_fine fault (suc n) all = first_then (first_of fault n) (fault n) (first_of_fine fault n (λ i h. all i (omega arith))) ∙ all n (omega arith)
 
 -- the row of a number that is cut short
-pub cut_row : (section : ℕ) (file : List ℕ) (fault : NumberFault) → fault ≡ CutShort (length file) → ◌≡◌ {A = Option Row} (Some (13, section ∷ length file ∷ [])) (Some (number_row section fault))
-cut_row section file fault e = sym (ap (λ (f : NumberFault). Some (number_row section f)) e)
+pub cut_row : (section : ℕ) (file : List ℕ) (fault : CutShort) → fault.length ≡ length file → ◌≡◌ {A = Option Row} (Some (13, section ∷ length file ∷ [])) (Some (number_row section fault))
+cut_row section file fault e = sym (ap (λ (n : ℕ). Some (13, section ∷ n ∷ [])) e)
 
 -- Section 1: its number cut short, its number too large, an entry's fault, and none
 module _ (file : List ℕ) (levels : ℕ) where

@@ -11,8 +11,7 @@ use Rattle.tables.specs.Bins.{bounds_in, representatives_in}
 use Rattle.tables.specs.Meaning.{table_of}
 use Rattle.tables.specs.declared.table.Bin.{Bin}
 use Rattle.tables.specs.declared.table.LevelTable.{LevelTable}
-use Rattle.tablefile.specs.declared.fault.NumberFault.{NumberFault}
-use Rattle.tablefile.specs.declared.fault.NumberFault.TheVariants.{CutShort}
+use Rattle.tablefile.specs.declared.fault.CutShort.{CutShort}
 use Rattle.tablefile.specs.declared.body.Body.{Body}
 use Rattle.tablefile.specs.declared.body.LevelEntry.{LevelEntry}
 use Rattle.tablefile.specs.declared.writer.Writer.{Writer}
@@ -21,16 +20,16 @@ use Rattle.tablefile.specs.Numbers.{word_at, long_at}
 use Rattle.tablefile.specs.Fields.{levels_in, counted_in, level_in, pixels_in, bins_place, bins_in, bin_place, bound_in, representative_in}
 
 -- the `size` bytes of the number at a place, or that it is cut short
-abbrev pub GotNumber : List ℕ → ℕ → ℕ → Result (List ℕ) NumberFault → Type 0
+abbrev pub GotNumber : List ℕ → ℕ → ℕ → Result (List ℕ) CutShort → Type 0
 GotNumber file place size (Ok bytes) = (bytes ≡ take size (drop place file)) × (place + size ≤ length file)
-GotNumber file place size (Err fault) = (length file < place + size) × (fault ≡ CutShort (length file))
+GotNumber file place size (Err fault) = (length file < place + size) × (fault.length ≡ length file)
 
 -- the same file, read on to a place
 abbrev pub ReadOn : Body → ℕ → Body → Type 0
 ReadOn body place then = (then.file.now ≡ body.file.now) × (then.levels ≡ body.levels) × (then.place ≡ place)
 
 -- the next number of a file, which is then read
-abbrev pub TookNumber : Body → ℕ → Body → Result (List ℕ) NumberFault → Type 0
+abbrev pub TookNumber : Body → ℕ → Body → Result (List ℕ) CutShort → Type 0
 TookNumber body size then (Ok bytes) = GotNumber body.file.now body.place size (Ok bytes) × ReadOn body (body.place + size) then
 TookNumber body size then (Err fault) = GotNumber body.file.now body.place size (Err fault)
 

@@ -1,8 +1,7 @@
 -- The row of the refusal table that each fault of the reader is.
 use Rattle.std.specs.Prelude.{ℕ, [], ◌∷◌}
 use Rattle.counting.specs.Outputs.{Row}
-use Rattle.tablefile.specs.declared.fault.NumberFault.{NumberFault}
-use Rattle.tablefile.specs.declared.fault.NumberFault.TheVariants.{CutShort}
+use Rattle.tablefile.specs.declared.fault.CutShort.{CutShort}
 use Rattle.tablefile.specs.declared.fault.SectionFault.{SectionFault}
 use Rattle.tablefile.specs.declared.fault.SectionFault.TheVariants.{Number, Rule}
 use Rattle.tablefile.specs.declared.fault.HeadFault.{HeadFault}
@@ -11,8 +10,8 @@ use Rattle.tablefile.specs.declared.fault.FileFault.{FileFault}
 use Rattle.tablefile.specs.declared.fault.FileFault.TheVariants.{Head, Levels, Bins, LeftOver}
 
 -- a number cut short, in a section
-abbrev pub number_row : ℕ → NumberFault → Row
-number_row section (CutShort count) = (13, section ∷ count ∷ [])
+abbrev pub number_row : ℕ → CutShort → Row
+number_row section fault = (13, section ∷ fault.length ∷ [])
 
 abbrev pub section_row : (section : ℕ) → SectionFault section → Row
 section_row section (Number fault) = number_row section fault

@@ -1,7 +1,7 @@
 // The sections after the head of a file, read one after the other.
 ghost use Rattle.std.specs.Prelude.{◌≤◌, length};
 
-use crate::fault::{BinsFault, FileFault, HeadFault, LevelsFault, NumberFault, SectionFault};
+use crate::fault::{BinsFault, CutShort, FileFault, HeadFault, LevelsFault, SectionFault};
 use crate::numbers::{EDITION, number};
 use arrayvec::ArrayVec;
 use counting::Histogram;
@@ -50,8 +50,8 @@ impl<'a> Body<'a> {
         })
     }
 
-    // The bytes of the next number.
-    fn number<const N: usize>(&mut self) -> Result<[u8; N], NumberFault>
+    // The bytes of the number at the body's place, which then stands after them.
+    fn number<const N: usize>(&mut self) -> Result<[u8; N], CutShort>
         ensures { TookNumber self.old N self.new result }
     {
         let bytes = number(self.file, self.place)?;
@@ -87,6 +87,7 @@ impl<'a> Body<'a> {
         let mut pixels = [0; 1024];
         let mut least = 0;
         let mut total = 0;
+        // A number of turns: the entries are read on from the file, and there is no list of them.
         for _ in 0..counted {
             let entry = self.level_entry(least, total)?;
             pixels[usize::from(entry.level)] = entry.pixels;
@@ -96,7 +97,7 @@ impl<'a> Body<'a> {
         Ok(pixels)
     }
 
-    // Section 1.
+    // Section 1: the histogram whose levels with pixels are the entries.
     pub(crate) fn histogram(&mut self) -> Result<Histogram, LevelsFault>
         requires { self.old.place ≡ 3 }
         ensures { Judged (section_row 1) (levels_fault self.old.file.now self.old.levels) (GotHistogram self.old self.new) result }
@@ -106,8 +107,8 @@ impl<'a> Body<'a> {
         Ok(Histogram::of(&pixels[..usize::from(self.levels)]).unwrap())
     }
 
-    // An entry of section 2, with the bound that it has to reach and whether it is the last, which is a fact about the entry: the last
-    // has one rule more.
+    // An entry of section 2, with the bound that it has to reach and whether it is the last. The last has one rule more, which is tested
+    // with the entry and not after all of them, since its fault names the entry's place.
     fn bin_entry(&mut self, least: u16, last: bool) -> Result<Bin, BinsFault>
         ensures { Judged (section_row 2) (part_fault self.old.file.now 2 self.old.place 4 (bin_rule self.old.levels least last (word_at self.old.file.now self.old.place) (word_at self.old.file.now (self.old.place + 2)))) (GotBin self.old self.new) result }
     {
@@ -126,7 +127,7 @@ impl<'a> Body<'a> {
         })
     }
 
-    // The entries of section 2.
+    // The entries of section 2: one for each bin, lowest bound first.
     fn bins(&mut self) -> Result<ArrayVec<Bin, 256>, BinsFault>
         ensures { Judged (section_row 2) (bins_fault self.old.file.now self.old.levels self.old.place) (λ bins. GotBins self.old self.new bins.items) result }
     {
@@ -137,7 +138,7 @@ impl<'a> Body<'a> {
         }
         let mut bins = ArrayVec::new();
         let mut least = 0;
-        // by number, which tells the last entry
+        // By number: the entries are read on from the file, there is no list of them, and the number tells which is the last.
         for i in 0..count {
             let bin = self.bin_entry(least, i + 1 == count)?;
             bins.push(bin);
@@ -146,7 +147,7 @@ impl<'a> Body<'a> {
         Ok(bins)
     }
 
-    // Section 2.
+    // Section 2: the table whose bins are the entries.
     pub(crate) fn table(&mut self) -> Result<LevelTable, BinsFault>
         ensures { Judged (section_row 2) (bins_fault self.old.file.now self.old.levels self.old.place) (GotTable self.old self.new) result }
     {

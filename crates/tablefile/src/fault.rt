@@ -1,22 +1,22 @@
 // What is wrong with a file: the number reader's fault inside a section's, and that inside the file's.
-// `from_gives` says that a fault is the same row of the refusal table inside another.
+// `from_gives` says that a fault is the same row of the refusal table inside another. It is why each `From` is written out: one that
+// the kit's derive writes has no contract, and `?` would say nothing of the fault.
 ghost use Rattle.std.specs.Prelude.{◌≡◌};
 ghost use Rattle.counting.specs.Outputs.{row_of};
 ghost use Rattle.tablefile.specs.Rows.{number_row, section_row, head_row, file_row};
 
 use refusals::Refusal;
 
-// Of a number.
+// Of a number: the file, of this length, ends before it does.
 #[derive(Clone, Copy)]
-pub enum NumberFault {
-    // the file, of this length, ends before the number does
-    CutShort { length: usize },
+pub struct CutShort {
+    pub length: usize,
 }
 
 // Of a section: a number, or a rule. `place` is the first byte of what breaks a rule.
 #[derive(Clone, Copy)]
 pub enum SectionFault<const SECTION: u8> {
-    Number(NumberFault),
+    Number(CutShort),
     Rule { place: usize },
 }
 
@@ -42,18 +42,18 @@ pub enum FileFault {
     LeftOver { place: usize },
 }
 
-impl<const SECTION: u8> From<NumberFault> for SectionFault<SECTION> {
+impl<const SECTION: u8> From<CutShort> for SectionFault<SECTION> {
     ghost from_gives = { λ x y. section_row SECTION y ≡ number_row SECTION x };
 
-    fn from(fault: NumberFault) -> SectionFault<SECTION> {
+    fn from(fault: CutShort) -> SectionFault<SECTION> {
         SectionFault::Number(fault)
     }
 }
 
-impl From<NumberFault> for HeadFault {
+impl From<CutShort> for HeadFault {
     ghost from_gives = { λ x y. head_row y ≡ number_row 0 x };
 
-    fn from(fault: NumberFault) -> HeadFault {
+    fn from(fault: CutShort) -> HeadFault {
         HeadFault::Section(SectionFault::Number(fault))
     }
 }
@@ -88,7 +88,7 @@ impl<const SECTION: u8> From<SectionFault<SECTION>> for Refusal {
 
     fn from(fault: SectionFault<SECTION>) -> Refusal {
         match fault {
-            SectionFault::Number(NumberFault::CutShort { length }) => Refusal::EndsEarly {
+            SectionFault::Number(CutShort { length }) => Refusal::EndsEarly {
                 section: SECTION,
                 length,
             },

@@ -17,7 +17,7 @@ use tables::LevelTable;
 
 // The entries of the two sections come from different places and have other numbers, so each section has a writer of its own.
 impl Writer<'_> {
-    // Section 0.
+    // Section 0: the edition, and the number of levels.
     fn put_head(&mut self, levels: u16)
         requires { self.old.place + 3 ≤ length self.old.out.now }
         ensures { Puts self.old (head_bytes levels) self.new }
@@ -26,7 +26,7 @@ impl Writer<'_> {
         self.put(levels.to_be_bytes());
     }
 
-    // An entry of section 1.
+    // An entry of section 1: a level and its pixels.
     fn put_level(&mut self, level: u16, pixels: u32)
         requires { self.old.place + 6 ≤ length self.old.out.now }
         ensures { Puts self.old (word level ++ long pixels) self.new }
@@ -35,7 +35,7 @@ impl Writer<'_> {
         self.put(pixels.to_be_bytes());
     }
 
-    // The entries of section 1.
+    // The entries of section 1: one for each level with pixels, lowest first.
     fn put_levels(&mut self, histogram: &Histogram)
         requires { self.old.place + 6 * length (counted_of (ledger_of histogram.now)) ≤ length self.old.out.now }
         ensures { Puts self.old (flat_map (level_bytes (ledger_of histogram.now)) (counted_of (ledger_of histogram.now))) self.new }
@@ -48,7 +48,8 @@ impl Writer<'_> {
         }
     }
 
-    // An entry of section 2, as two numbers: a proof knows that each fits its type, and does not of the fields of a `Bin`.
+    // An entry of section 2: a bin's bound and its representative. They are two numbers here, since a proof knows that each fits its type,
+    // and does not of the fields of a `Bin`.
     fn put_bin(&mut self, bound: u16, representative: u16)
         requires { self.old.place + 4 ≤ length self.old.out.now }
         ensures { Puts self.old (word bound ++ word representative) self.new }
@@ -57,7 +58,7 @@ impl Writer<'_> {
         self.put(representative.to_be_bytes());
     }
 
-    // The entries of section 2.
+    // The entries of section 2: one for each bin, lowest first.
     fn put_bins(&mut self, table: &LevelTable)
         requires { self.old.place + 4 * length (table_of table.now).bounds ≤ length self.old.out.now }
         ensures { Puts self.old (flat_map (bin_bytes (table_of table.now)) (range_with_len 0 (length (table_of table.now).bounds))) self.new }

@@ -3,7 +3,6 @@ use Rattle.std.proofs.lemmas.Bool.Decides.{nat_tests}
 use Rattle.tablefile.specs.Numbers.{word_at, long_at}
 use Rattle.tablefile.specs.Rows.{section_row}
 use Rattle.tablefile.specs.Faults.{level_rule}
-use Rattle.tablefile.specs.declared.fault.NumberFault.TheVariants.{CutShort}
 use Rattle.tablefile.proofs.Faults.{judged_err, cut_row, part_cut, part_broken, part_fine}
 use Rattle.tablefile.proofs.Places.{word_taken, long_taken}
 use Rattle.tablefile.proofs.body.Body.level_entry.Goals as goal
@@ -21,7 +20,7 @@ returns-in_err-number-2 c =
     let cut = c.in_err-number-2.ensures in
     let same = ap length first.1.0 in
     judged_err (section_row 1) _ _ _ _ c.from_residual-in_err-number-2.ensures.1
-    (part_cut body.file.now 1 body.place 6 _ (omega arith) ∙ cut_row 1 body.file.now _ (cut.1 ∙ ap CutShort same))
+    (part_cut body.file.now 1 body.place 6 _ (omega arith) ∙ cut_row 1 body.file.now _ (cut.1 ∙ same))
 
 pub returns-then-not-contains : goal.returns-then-not-contains
 returns-then-not-contains c =
