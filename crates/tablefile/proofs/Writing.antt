@@ -1,11 +1,12 @@
 -- Bytes written one part after the other, and how many bytes a pair has.
 use Rattle.std.proofs.Common.{◌≡◌, ℕ, zero, suc, ◌+◌, ◌*◌, ◌/◌, ◌%◌, ◌^◌, ◌<◌, ◌≤◌, Bool, ltb, List, [], ◌∷◌, ◌++◌, length, get_or, take, drop, Some, None, count_by, sym, refl, ap, ◌∙◌, subst, ap₂, inl, inr, mul-zero, mul-suc, add-one, arith, length-append, take_all}
 use lib.Seq.{paste}
-use Rattle.std.specs.List.{range_with_len, flat_map}
+use Rattle.std.specs.List.{range_with_len, flat_map, zip}
 use Rattle.std.proofs.lemmas.List.Edits.{paste_none, paste-paste, paste_all}
-use Rattle.std.proofs.lemmas.List.{get_or-map, length-map, append_assoc, flat_map_more, length_push}
+use Rattle.std.proofs.lemmas.List.{get_or-map, get_or_default, length-map, append_assoc, flat_map_more, length_push}
 use Rattle.std.proofs.lemmas.List.Sums.{count_by_more_yes, count_by_more_no}
-use Rattle.std.proofs.lemmas.List.FromFn.{length-range_with_len}
+use Rattle.std.proofs.lemmas.List.FromFn.{length-range_with_len, get_or-range_with_len}
+use Rattle.std.proofs.lemmas.Slice.Zip.{length-zip, get_or-zip}
 use Rattle.std.proofs.lemmas.Bool.{cases_Bool, lt-ltb, le-ltb, eq-eqb}
 use Rattle.counting.specs.Ledger.{Ledger, pixels_at, counted_levels}
 use Rattle.counting.specs.Outputs.{over}
@@ -116,6 +117,18 @@ module _ (t : Table) (writer : Writer) (room : writer.place + 4 * length t.bound
         let entry = put_same mid then _ (bin_bytes t i) (ap₂ (λ (b r : ℕ). word b ++ word r) bound grey) more in
         put_same writer then _ _ (flat_map_more (bin_bytes t) [] (range_with_len 0 i) i ∙ ap (flat_map (bin_bytes t)) (sym (counting_more i)))
         (put_put writer mid then (entries_upto i) (bin_bytes t i) (omega (arith, bins_so_far)) put entry)
+
+-- a level beside its pixels, as the levels are gone over
+pub level_turn : (levels i : ℕ) (at : List ℕ) (x : ℕ × ℕ) → length at ≡ levels → (i < length (zip (range_with_len 0 levels) at)) × (x ≡ get_or (zip (range_with_len 0 levels) at) i x) →
+    (i < levels) × (x.0 ≡ i) × (x.1 ≡ get_or at i 0)
+level_turn levels i at x wide turn =
+    let many = length-range_with_len 0 levels in
+    let both = length-zip (range_with_len 0 levels) at in
+    let within : i < levels = omega (arith, turn.0) in
+    let pair = turn.1 ∙ get_or-zip (range_with_len 0 levels) at i x (omega arith) (omega arith) in
+    let level = ap (λ (p : ℕ × ℕ). p.0) pair ∙ get_or-range_with_len 0 levels i x.0 within in
+    let pixels = ap (λ (p : ℕ × ℕ). p.1) pair ∙ get_or_default at i x.1 0 (omega arith) in
+    (within, omega arith, pixels)
 
 -- how many levels have pixels, counted on the levels and on their pixels
 counted_upto : (g : Ledger) (k : ℕ) → k ≤ length g.at → count_by (ltb 0) (take k g.at) ≡ length (counted_below g k)

@@ -40,10 +40,9 @@ impl Writer<'_> {
         requires { self.old.place + 6 * length (counted_of (ledger_of histogram.now)) ≤ length self.old.out.now }
         ensures { Puts self.old (flat_map (level_bytes (ledger_of histogram.now)) (counted_of (ledger_of histogram.now))) self.new }
     {
-        for (level, pixels) in histogram.pixels().iter().enumerate() {
+        for (level, pixels) in (0..histogram.levels()).zip(histogram.pixels()) {
             if *pixels > 0 {
-                // there are at most 1,024 levels
-                self.put_level(level as u16, *pixels);
+                self.put_level(level, *pixels);
             }
         }
     }
