@@ -12,8 +12,8 @@ pub(crate) fn number<const N: usize>(file: &[u8], place: usize) -> Result<[u8; N
     requires { place ≤ length file.now }
     ensures { GotNumber file.now place N result }
 {
-    match file[place..].first_chunk() {
-        Some(bytes) => Ok(*bytes),
-        None => Err(CutShort { length: file.len() }),
-    }
+    file[place..]
+        .first_chunk()
+        .copied()
+        .ok_or(CutShort { length: file.len() })
 }
