@@ -11,4 +11,4 @@ mod writes;
 
 pub use reads::read;
 pub use trips::{edition, rewrite, round_trip};
-pub use writes::write;
+pub use writes::{file_length, write};

@@ -1,5 +1,5 @@
 // Writing a histogram and a table as a file, each part after the part before it.
-ghost use Rattle.std.specs.Prelude.{◌+◌, ◌*◌, ◌≤◌, ◌++◌, length};
+ghost use Rattle.std.specs.Prelude.{◌≡◌, ◌+◌, ◌*◌, ◌≤◌, ◌++◌, length};
 ghost use Rattle.std.specs.List.{range_with_len, flat_map};
 ghost use Rattle.counting.specs.Meaning.{ledger_of};
 ghost use Rattle.counting.specs.Outputs.{Wrote};
@@ -68,6 +68,13 @@ impl Writer<'_> {
     }
 }
 
+// How many bytes the histogram and the table have as a file, and so how many have to be lent for it.
+pub fn file_length(histogram: &Histogram, table: &LevelTable) -> usize
+    ensures { result ≡ length (bytes_of (ledger_of histogram.now) (table_of table.now)) }
+{
+    7 + 6 * usize::from(histogram.counted_levels()) + 4 * usize::from(table.bins())
+}
+
 // Writes the file of the histogram and the table over the first bytes of the output; gives how many.
 pub fn write(histogram: &Histogram, table: &LevelTable, out: &mut [u8]) -> Result<usize, Refusal>
     ensures { Wrote (write_row (ledger_of histogram.now) (table_of table.now) (length out.old)) (bytes_of (ledger_of histogram.now) (table_of table.now)) result out.old out.new }
@@ -79,17 +86,15 @@ pub fn write(histogram: &Histogram, table: &LevelTable, out: &mut [u8]) -> Resul
             table: table.levels(),
         });
     }
-    let counted = histogram.counted_levels();
-    let bins = table.bins();
-    let needed = 7 + 6 * usize::from(counted) + 4 * usize::from(bins);
+    let needed = file_length(histogram, table);
     if out.len() < needed {
         return Err(Refusal::OutputTooShort { needed });
     }
     let mut writer = Writer::new(out);
     writer.put_head(levels);
-    writer.put(counted.to_be_bytes());
+    writer.put(histogram.counted_levels().to_be_bytes());
     writer.put_levels(histogram);
-    writer.put(bins.to_be_bytes());
+    writer.put(table.bins().to_be_bytes());
     writer.put_bins(table);
     Ok(needed)
 }
