@@ -9,7 +9,7 @@ use Rattle.divisions.specs.Recurrence.{best_division}
 use Rattle.divisions.specs.Tables.{bins_below}
 use Rattle.tables.specs.declared.table.Bin.{Bin}
 use Rattle.drawing.specs.Cells.{Searched}
-use Rattle.drawing.specs.declared.cells.Cells.{Cells}
+use Rattle.drawing.specs.declared.work.Cells.{Cells}
 use Rattle.drawing.specs.declared.search.Search.{Search}
 
 -- the ledger whose counted levels are divided

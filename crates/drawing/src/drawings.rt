@@ -7,7 +7,7 @@ ghost use Rattle.pricing.specs.Errors.{SameErrors};
 ghost use Rattle.tables.specs.Meaning.{table_of};
 ghost use Rattle.drawing.specs.Drawings.{draw_row, cells_needed, Drew, Drawing};
 
-use crate::cells::Cells;
+use crate::work::Cells;
 use crate::receipt::Receipt;
 use crate::search::Search;
 use counting::Histogram;

@@ -3,11 +3,11 @@
 
 ghost use Rattle.drawing.specs.Drawings.{DrawnTotalsArePlain};
 
-mod cells;
 mod drawings;
 mod law;
 mod receipt;
 mod search;
+mod work;
 
 pub use divisions::{
     bins, charged_once, compared, counted_levels_are_listed, enough_bins_cost_nothing,

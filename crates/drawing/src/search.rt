@@ -1,27 +1,19 @@
-// A search for the best division of the counted levels of a histogram, and the price of a run of them.
-// Each contract with a lent pricer says `SameErrors`: it is a fact about the call, and no type can hold it.
-ghost use Rattle.std.specs.Prelude.{◌≡◌, ℕ, ◌+◌, ◌-◌, ◌<◌, ◌≤◌};
+// A search for the best division of the counted levels of a histogram.
+// Each contract of this crate with a lent pricer says `SameErrors`: it is a fact about the call, and no type can hold it.
+ghost use Rattle.std.specs.Prelude.{◌≡◌, ℕ, ◌+◌, ◌<◌, ◌≤◌};
 ghost use Rattle.counting.specs.Ledger.{counted_levels};
 ghost use Rattle.counting.specs.Meaning.{ledger_of};
-ghost use Rattle.pricing.specs.Errors.{SameErrors};
-ghost use Rattle.divisions.specs.Divisions.{levels_of, level_at, representative, price};
+ghost use Rattle.divisions.specs.Divisions.{levels_of, level_at};
 ghost use Rattle.divisions.specs.Recurrence.{least_tally};
 
 mod least;
+mod run;
 mod trace;
 
-use crate::cells::Cells;
+use crate::work::Cells;
 use arrayvec::ArrayVec;
 use counting::Histogram;
-use pricing::{Pricer, Tally};
-
-// A run, by the places of its lowest and its highest counted level.
-#[derive(Clone, Copy)]
-struct Run {
-    start: usize,
-    end: usize,
-    ghost order: { start ≤ end },
-}
+use pricing::Tally;
 
 // The counted levels, in rising order, and the number of runs that they are cut into.
 #[derive(Drop)]
@@ -78,23 +70,6 @@ impl<'a> Search<'a> {
         ensures { result ≡ level_at (ledger self.now) place }
     {
         self.levels[place]
-    }
-
-    // The representative and the price of a run.
-    fn price<P: Pricer>(&self, pricer: &mut P, run: Run) -> (u16, P::Kind)
-        requires { run.end < counted self.now }
-        ensures representative { result.0 ≡ representative P.Kind.Tally.ops (P.Measure.error pricer.old) (ledger self.now) run.start (run.end + 1 - run.start) }
-        ensures price { result.1 ≡ price P.Kind.Tally.ops (P.Measure.error pricer.old) (ledger self.now) run.start (run.end + 1 - run.start) }
-        ensures same { SameErrors (P.Measure.error pricer.new) (P.Measure.error pricer.old) }
-    {
-        // A range is without a price if it is turned round, reaches past the levels or has no pixels: a run is none of these.
-        pricer
-            .price(
-                self.histogram,
-                self.level_at(run.start),
-                self.level_at(run.end),
-            )
-            .unwrap()
     }
 
     // The least tally of all counted levels: it stands in the last cell.

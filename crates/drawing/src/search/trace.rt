@@ -6,8 +6,9 @@ ghost use Rattle.tables.specs.Meaning.{table_of};
 ghost use Rattle.divisions.specs.Tables.{table_for};
 ghost use Rattle.drawing.specs.Filling.{ledger, Filled, best_runs, best_bins};
 
-use super::{Run, Search};
-use crate::cells::Cells;
+use super::Search;
+use super::run::Run;
+use crate::work::Cells;
 use arrayvec::ArrayVec;
 use pricing::Pricer;
 use tables::{Bin, LevelTable};
@@ -25,10 +26,11 @@ impl Search<'_> {
         for bin in (0..self.bins).rev() {
             let start = usize::from(cells.links[(end - 1) * self.bins + bin]);
             let last = Run {
+                search: self,
                 start,
                 end: end - 1,
             };
-            let (representative, _) = self.price(pricer, last);
+            let (representative, _) = last.price(pricer);
             bins.push(Bin {
                 bound: self.level_at(last.end),
                 representative,
