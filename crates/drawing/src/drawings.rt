@@ -7,18 +7,26 @@ ghost use Rattle.pricing.specs.Errors.{SameErrors};
 ghost use Rattle.tables.specs.Meaning.{table_of};
 ghost use Rattle.drawing.specs.Drawings.{draw_row, cells_needed, Drew, Drawing};
 
-use crate::work::Cells;
 use crate::receipt::Receipt;
 use crate::search::Search;
+use crate::work::Cells;
 use counting::Histogram;
 use divisions::{bins, compared, priced};
 use pricing::Pricer;
 use refusals::Refusal;
 use tables::LevelTable;
 
-// The refusals of a drawing, in their order; `cells` is the length of the shorter work list.
-fn judge(histogram: &Histogram, most: u16, cells: usize) -> Result<(), Refusal>
-    ensures { Judged (draw_row (ledger_of histogram.now) most cells) result }
+// How many cells each work list needs for a drawing of at most `most` bins.
+pub fn cells(histogram: &Histogram, most: u16) -> usize
+    ensures { result ≡ cells_needed (ledger_of histogram.now) most }
+{
+    let counted = histogram.counted_levels();
+    usize::from(counted) * usize::from(bins(counted, most))
+}
+
+// The refusals of a drawing, in their order; `lent` is the length of the shorter work list.
+fn judge(histogram: &Histogram, most: u16, lent: usize) -> Result<(), Refusal>
+    ensures { Judged (draw_row (ledger_of histogram.now) most lent) result }
 {
     if !(1..=256).contains(&most) {
         return Err(Refusal::BinsOutOfRange { most });
@@ -26,15 +34,14 @@ fn judge(histogram: &Histogram, most: u16, cells: usize) -> Result<(), Refusal>
     if histogram.total() == 0 {
         return Err(Refusal::NoPixels);
     }
-    let counted = histogram.counted_levels();
-    let needed = usize::from(counted) * usize::from(bins(counted, most));
-    if cells < needed {
+    let needed = cells(histogram, most);
+    if lent < needed {
         return Err(Refusal::WorkTooShort { needed });
     }
     Ok(())
 }
 
-// Draws a table that is not refused. `SameErrors` is a fact about the call, which no type of a pricer can hold.
+// Draws a table that is not refused.
 fn draw_up<P: Pricer>(
     pricer: &mut P,
     histogram: &Histogram,

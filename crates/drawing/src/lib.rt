@@ -15,7 +15,7 @@ pub use divisions::{
     path_steps_are_tested, priced, prices_are_answers, tables_stand, theorems_at_the_cases,
     totals_are_plain_sums, worked_cases,
 };
-pub use drawings::draw;
+pub use drawings::{cells, draw};
 pub use law::reduce;
 pub use receipt::Receipt;
 
