@@ -1,5 +1,5 @@
 // What a drawing returns.
-#[derive(Clone, Copy, PartialEq, Eq, Hash, Debug)]
+#[derive(Clone, Copy, PartialEq, Eq, Debug)]
 pub struct Receipt<T> {
     // what it costs to show the pixels by the table
     pub tally: T,
