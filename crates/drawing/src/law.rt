@@ -10,6 +10,7 @@ use tables::LevelTable;
 
 // Makes the calls on a fresh histogram in `place`, writes their answers, and draws a table of at most `most` bins.
 // As many calls are made as the shorter of `calls` and `answers` has. What is returned says how the drawing went.
+// Eight parameters, as the caller lends every list and every place.
 pub fn reduce<P: Pricer>(
     pricer: &mut P,
     calls: &[Call<'_>],
