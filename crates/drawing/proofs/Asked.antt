@@ -1,6 +1,6 @@
 -- The counted levels as they are listed, and what a pricer answers for a run of them: never nothing, and nothing but the run's
 -- representative and price.
-use Rattle.std.proofs.Common.{◌≡◌, ℕ, suc, ◌+◌, ◌-◌, ◌<◌, ◌≤◌, ltb, List, [], ◌∷◌, ◌++◌, length, get_or, Some, None, Option, IsSome, refl, ap, ◌∙◌, subst, subst₂, arith}
+use Rattle.std.proofs.Common.{◌≡◌, ℕ, suc, ◌+◌, ◌-◌, ◌<◌, ◌≤◌, ltb, List, [], ◌∷◌, ◌++◌, length, get_or, get_or-drop, drop, drop-drop, Some, None, Option, IsSome, refl, sym, ap, ◌∙◌, subst, subst₂, arith}
 use Rattle.std.proofs.lemmas.List.{append-nil}
 use Rattle.std.proofs.lemmas.Bool.{cond-true, cond-false, lt-ltb, le-ltb}
 use Rattle.std.specs.List.{range_with_len}
@@ -32,6 +32,15 @@ module _ (g : Ledger) where
   front_none level none =
       let e : level + 1 ≡ suc level = omega arith in
       ap (front g) e ∙ front_more g level ∙ ap (λ (xs : List ℕ). front g level ++ xs) (cond-false _ (level ∷ []) [] (le-ltb 0 (pixels_at g level) none)) ∙ append-nil (front g level)
+
+  -- the pixels of a level, and those of the levels above it, where the pixels from that level on are left
+  pub next_pixels : (level pixels : ℕ) (rest : List ℕ) → drop level g.at ≡ pixels ∷ rest → (pixels ≡ pixels_at g level) × (rest ≡ drop (level + 1) g.at)
+  next_pixels level pixels rest e =
+      let none : level + 0 ≡ level = omega arith in
+      let one : level + 1 ≡ 1 + level = omega arith in (
+        ap (λ (xs : List ℕ). get_or xs 0 0) (sym e) ∙ get_or-drop level g.at 0 0 ∙ ap (λ (n : ℕ). get_or g.at n 0) none,
+        ap (λ (xs : List ℕ). drop 1 xs) (sym e) ∙ drop-drop 1 level g.at,
+      )
 
   pub number_listed : Sound g → (levels : List ℕ) → levels ≡ levels_of g → length levels ≡ counted_levels g
   unfolding rank

@@ -32,10 +32,9 @@ fn listed(histogram: &Histogram) -> ArrayVec<u16, 1024>
     ensures { result.items ≡ levels_of (ledger_of histogram.now) }
 {
     let mut levels = ArrayVec::new();
-    for (level, pixels) in histogram.pixels().iter().enumerate() {
+    for (level, pixels) in (0..histogram.levels()).zip(histogram.pixels()) {
         if *pixels > 0 {
-            // There are at most 1,024 levels, so the cast loses nothing: `try_from` would make a failure of what cannot fail.
-            levels.push(level as u16);
+            levels.push(level);
         }
     }
     levels

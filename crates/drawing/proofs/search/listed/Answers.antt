@@ -1,34 +1,46 @@
 -- One level more at each turn.
-use Rattle.std.proofs.Common.{◌≡◌, ℕ, List, [], ◌∷◌, ◌++◌, length, get_or, sym, ap, ◌∙◌, arith}
-use Rattle.arrayvec.specs.ArrayVec.{ArrayVec}
+use Rattle.std.proofs.Common.{◌≡◌, ℕ, ◌+◌, List, [], ◌∷◌, ◌++◌, length, drop, sym, ap, ◌∙◌, arith}
+use Rattle.std.specs.Iterator.Adapters.{zip_first, zip_second}
+use Rattle.std.specs.Slice.Iter.{iter_rest}
 use Rattle.counting.specs.Meaning.{ledger_of}
-use Rattle.counting.specs.Ledger.{pixels_at}
 use Rattle.counting.proofs.Ledgers.{sound_histogram}
 use Rattle.divisions.proofs.Places.{front}
-use Rattle.drawing.proofs.Asked.{front_few, front_one, front_none}
+use Rattle.drawing.proofs.Asked.{front_few, front_one, front_none, next_pixels}
 use Rattle.drawing.proofs.search.listed.Goals as goal
-use Rattle.drawing.proofs.search.listed.Goals.{then-pixels-gt0, else-pixels-gt0}
 
 pub push-requires : goal.push-requires
 push-requires c =
     let g = ledger_of c.args.histogram.now in
     let S = sound_histogram c.args.histogram.now in
-    (omega arith, omega (arith, ap length c.loop-level.invariant, front_few g c.loop-level.level, ap length c.pixels-pixels-items.ensures, S.width, S.range))
+    let inv = c.loop-level.invariant in
+    (omega arith, omega (arith, ap length inv.0, front_few g (zip_first c.loop-level.level-iterator).start, inv.2, c.in-Some.ensures.steps.0.1.0, S.range))
+
+pub loop-level-preserved-then-pixels-gt0 : goal.loop-level-preserved-then-pixels-gt0
+loop-level-preserved-then-pixels-gt0 c =
+    let g = ledger_of c.args.histogram.now in
+    let inv = c.loop-level.invariant in
+    let range = c.in-Some.ensures.steps.0 in
+    let level = c.in-Some.level in
+    let from = (zip_first c.loop-level.level-iterator).start in
+    let here = next_pixels g from c.in-Some.pixels.now (iter_rest (zip_second c.next.new.self)) (sym inv.3 ∙ c.in-Some.ensures.steps.1) in
+    let level_is : level ≡ from = range.1.1 in
+    let next : from + 1 ≡ (zip_first c.next.new.self).start = omega (arith, range.1.2) in (
+      c.push.ensures.items ∙ ap (λ (xs : List ℕ). xs ++ level ∷ []) inv.0 ∙ ap (λ (l : ℕ). front g from ++ l ∷ []) level_is ∙ sym (front_one g from (omega (arith, here.0, c.if-pixels-gt0.true))) ∙ ap (front g) next,
+      omega (arith, range.1.0, inv.2),
+      range.0 ∙ inv.2,
+      here.1 ∙ ap (λ (l : ℕ). drop l g.at) next,
+    )
 
 pub loop-level-preserved : goal.loop-level-preserved
 loop-level-preserved c =
     let g = ledger_of c.args.histogram.now in
-    let level = c.loop-level.level in
-    let pixels_are : get_or c.pixels-pixels-items.result.now level 0 ≡ pixels_at g level = ap (λ (xs : List ℕ). get_or xs level 0) c.pixels-pixels-items.ensures in
-    elim c.if-pixels-gt0.branch [
-      | then-pixels-gt0 w ↦ ap (λ (v : ArrayVec ℕ). v.items) w.levels-is ∙ w.push.ensures.items ∙ ap (λ (xs : List ℕ). xs ++ level ∷ []) c.loop-level.invariant
-          ∙ sym (front_one g level (omega (arith, w.if-pixels-gt0.true, pixels_are)))
-      | else-pixels-gt0 w ↦ ap (λ (v : ArrayVec ℕ). v.items) w.levels-is ∙ c.loop-level.invariant ∙ sym (front_none g level (omega (arith, w.if-pixels-gt0.false, pixels_are)))
-    ]
-
-pub returns : goal.returns
-returns c =
-    let g = ledger_of c.args.histogram.now in
-    let S = sound_histogram c.args.histogram.now in
-    let all : c.loop-level.level ≡ g.levels = omega (arith, ap length c.pixels-pixels-items.ensures, S.width) in
-    c.loop-level.invariant ∙ ap (front g) all
+    let inv = c.loop-level.invariant in
+    let range = c.in-Some.ensures.steps.0 in
+    let from = (zip_first c.loop-level.level-iterator).start in
+    let here = next_pixels g from c.in-Some.pixels.now (iter_rest (zip_second c.next.new.self)) (sym inv.3 ∙ c.in-Some.ensures.steps.1) in
+    let next : from + 1 ≡ (zip_first c.next.new.self).start = omega (arith, range.1.2) in (
+      inv.0 ∙ sym (front_none g from (omega (arith, here.0, c.if-pixels-gt0.false))) ∙ ap (front g) next,
+      omega (arith, range.1.0, inv.2),
+      range.0 ∙ inv.2,
+      here.1 ∙ ap (λ (l : ℕ). drop l g.at) next,
+    )
