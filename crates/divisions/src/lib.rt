@@ -1,5 +1,5 @@
-// Divisions of the counted levels into runs, the tables they make and the figures of a drawing. What is proved of them stands as the
-// contracts of the functions of this file, which do nothing.
+// Divisions of the counted levels into runs, the tables they make and the figures of a drawing.
+// What is proved of them stands as the contracts of the functions of this file, which do nothing.
 #![tactic(auto)]
 
 ghost use Rattle.divisions.specs.Theorems.{CountedLevelsAreListed, PricesAreAnswers, NoLevelBeatsThePrice, OneBestDivision, MoreBinsNeverCostMore, EnoughBinsCostNothing, NeverBeaten, ChargedOnce, TotalsArePlainSums, TablesStand, PathStepsAreTested};

@@ -43,6 +43,7 @@ impl Run<'_, '_> {
         requires callable { F.IsAlwaysCallable keeps }
         ensures { (keep : T → T → Bool) → Computes (F.post keeps) keep → Turned T.Tally.ops keep price self.now.start (self.now.end * self.now.search.now.bins + numbers.start) ((self.now.start - 1) * self.now.search.now.bins + (numbers.start - 1)) (numbers.end - numbers.start) cells.old.tallies.now cells.new.tallies.now cells.old.links.now cells.new.links.now }
     {
+        // Under names of their own: a proof knows that a lent list keeps its length over a loop, but not that one in a field does.
         let tallies = &mut *cells.tallies;
         let links = &mut *cells.links;
         let row = self.end * self.search.bins + numbers.start;
