@@ -37,11 +37,15 @@ first_of t (suc bin) = bound_of t bin + 1
 abbrev pub pixels_between : Ledger → ℕ → ℕ → ℕ
 pixels_between g first last = sum (map (pixels_at g) (range_with_len first (last + 1 - first)))
 
+-- the line of the levels from `first` to `bound`: both, their representative, and the pixels that they hold
+abbrev pub levels_line : Ledger → ℕ → ℕ → ℕ → List ℕ
+levels_line g first bound representative =
+    decimal first ++ (codes " " ++ (decimal bound ++ (codes " " ++
+    (decimal representative ++ (codes " " ++ (decimal (pixels_between g first bound) ++ codes "\n"))))))
+
 -- the line of a bin: its first level, its bound, its representative, and the pixels that it holds
 abbrev pub bin_line : Ledger → Table → ℕ → List ℕ
-bin_line g t bin =
-    decimal (first_of t bin) ++ (codes " " ++ (decimal (bound_of t bin) ++ (codes " " ++
-    (decimal (representative_of t bin) ++ (codes " " ++ (decimal (pixels_between g (first_of t bin) (bound_of t bin)) ++ codes "\n"))))))
+bin_line g t bin = levels_line g (first_of t bin) (bound_of t bin) (representative_of t bin)
 
 abbrev pub bin_lines : Ledger → Table → List ℕ
 bin_lines g t = flat_map (bin_line g t) (range_with_len 0 (length t.bounds))

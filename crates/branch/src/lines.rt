@@ -1,16 +1,16 @@
 // The lines of a drawn table.
-ghost use Rattle.std.specs.Prelude.{◌≡◌, ◌+◌, ◌<◌, ◌≤◌, ◌++◌, length, IfOk, string_bytes};
+ghost use Rattle.std.specs.Prelude.{◌≡◌, ◌+◌, ◌<◌, ◌≤◌, ◌++◌, IfOk, string_bytes};
 ghost use Rattle.counting.specs.Meaning.{ledger_of};
 ghost use Rattle.refusals.specs.Refusals.{refusal_number};
 ghost use Rattle.tables.specs.Meaning.{table_of};
-ghost use Rattle.branch.specs.Report.{pixels_between, first_of, bin_line, bin_lines, figures_line, refused_line};
+ghost use Rattle.branch.specs.Report.{pixels_between, levels_line, bin_lines, figures_line, refused_line};
 
 use counting::Histogram;
 use drawing::Receipt;
 use pricing::Total;
 use refusals::Refusal;
 use std::alloc::{AllocError, Global};
-use tables::LevelTable;
+use tables::{Bin, LevelTable};
 
 // How many pixels stand at the levels from `first` to `last`, both included.
 fn pixels_between(histogram: &Histogram, first: u16, last: u16) -> u32
@@ -50,12 +50,12 @@ pub struct DrawnTable<'a> {
 
 impl DrawnTable<'_> {
     // The line of a bin whose lowest level is `first`.
-    fn bin_line(&self, heap: Global, bin: u16, first: u16) -> Result<String, AllocError>
-        requires { (bin < length (table_of self.now.table.now).bounds) × (first ≡ first_of (table_of self.now.table.now) bin) }
-        ensures { IfOk result (λ s. string_bytes s ≡ bin_line (ledger_of self.now.histogram.now) (table_of self.now.table.now) bin) }
+    fn bin_line(&self, heap: Global, bin: Bin, first: u16) -> Result<String, AllocError>
+        requires { (first ≤ bin.bound + 1) × (bin.bound < (ledger_of self.now.histogram.now).levels) }
+        ensures { IfOk result (λ s. string_bytes s ≡ levels_line (ledger_of self.now.histogram.now) first bin.bound bin.representative) }
     {
-        let bound = self.table.bound(bin);
-        let representative = self.table.representative(bin);
+        let bound = bin.bound;
+        let representative = bin.representative;
         let pixels = pixels_between(self.histogram, first, bound);
         format!(in heap; "{first} {bound} {representative} {pixels}\n")
     }
@@ -66,11 +66,10 @@ impl DrawnTable<'_> {
     {
         let mut text = String::new(heap);
         let mut first = 0;
-        // By number, as the report is said: where a bin begins is told by the bin below it.
-        for bin in 0..self.table.bins() {
-            let line = self.bin_line(heap, bin, first)?;
+        for bin in self.table.as_slice() {
+            let line = self.bin_line(heap, *bin, first)?;
             text.push_str(line.as_str())?;
-            first = self.table.bound(bin) + 1;
+            first = bin.bound + 1;
         }
         Ok(text)
     }

@@ -8,6 +8,6 @@ use Rattle.branch.proofs.lines.DrawnTable.bin_lines.Given as goal
 
 abbrev pub invariant-loop-bin : goal.invariant-loop-bin
 invariant-loop-bin l = record {
-  lines : string_bytes l.text ≡ flat_map (bin_line (ledger_of l.self.histogram.now) (table_of l.self.table.now)) (range_with_len 0 l.bin);
-  begins : l.first ≡ first_of (table_of l.self.table.now) l.bin;
+  lines : string_bytes l.text ≡ flat_map (bin_line (ledger_of l.self.histogram.now) (table_of l.self.table.now)) (range_with_len 0 l.bin-index);
+  begins : l.first ≡ first_of (table_of l.self.table.now) l.bin-index;
 }
