@@ -8,7 +8,7 @@ use crate::input::numbers;
 use crate::lines::{DrawnTable, refused_line};
 use counting::{Answer, Call, Histogram};
 use drawing::{Receipt, reduce};
-use pricing::{CentroidPricer, Total};
+use pricing::{CentroidPricer, Tally, Total};
 use refusals::Refusal;
 use std::alloc::{AllocError, Global};
 use tables::LevelTable;
@@ -33,7 +33,7 @@ fn outcome(
 fn answer(heap: Global, levels: u16, most: u16, row: &[u16]) -> Result<String, AllocError>
     ensures { IfOk result (λ text. Answered (opened levels ∷ counted row.now ∷ []) most (string_bytes text)) }
 {
-    let mut tallies = vec![in heap; Total { sum: 0 }; CELLS]?;
+    let mut tallies = vec![in heap; Total::neutral(); CELLS]?;
     let mut links = vec![in heap; 0; CELLS]?;
     let mut answers = [Ok(None); 2];
     let mut histogram = Histogram::fresh();
