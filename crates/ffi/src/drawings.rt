@@ -6,7 +6,7 @@ ghost use Rattle.drawing.specs.Drawings.{draw_row};
 ghost use Rattle.ffi.specs.Scans.{scanned};
 ghost use Rattle.ffi.specs.Told.{Told, DrewOrRefused, Kept};
 
-use crate::cells::fill;
+use crate::cells::fill_bins;
 use crate::drawn::Drawn;
 use crate::rows::{Rows, histogram_of};
 use drawing::{Receipt, draw};
@@ -25,15 +25,15 @@ fn tell(
 {
     match res {
         Ok(receipt) => {
-            fill(bounds, 256, |bin| table.bound(bin));
-            fill(representatives, 256, |bin| table.representative(bin));
+            fill_bins(table, bounds, representatives);
             Drawn::from(receipt)
         }
         Err(refusal) => Drawn::from(refusal),
     }
 }
 
-// Draws a table of at most `most` bins from the scan with the pricer, and writes its bounds and representatives.
+// Draws a table of at most `most` bins from the scan with the pricer, and writes its bounds and representatives. The lists stand
+// one by one, as C passes them.
 fn draw_scan<P: Pricer<Kind = Total>>(
     pricer: &mut P,
     levels: u16,

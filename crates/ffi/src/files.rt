@@ -7,13 +7,14 @@ ghost use Rattle.tablefile.specs.Faults.{first_fault};
 ghost use Rattle.tablefile.specs.Promises.{write_row};
 ghost use Rattle.ffi.specs.Files.{Put, Got};
 
-use crate::cells::fill;
+use crate::cells::{fill, fill_bins};
 use counting::Histogram;
 use tablefile::{read, write};
 use tables::LevelTable;
 
 // Writes the file of the histogram with these pixels and the table of these bounds and representatives over the first bytes of
-// the output; gives how many. Nothing is written where they make no histogram or no table, or the output is too short.
+// the output; gives how many. Where they make no histogram or no table, or the output is too short, nothing is written and it
+// gives 0, since C knows no `Option` and no `Result`.
 pub fn slip_write(at: &[u32], bounds: &[u16], representatives: &[u16], out: &mut [u8]) -> usize
     ensures lawful { Sound (of_pixels at.now) → Lawful (given (length at.now) bounds.now representatives.now) → Put (write_row (of_pixels at.now) (given (length at.now) bounds.now representatives.now) (length out.old)) (bytes_of (of_pixels at.now) (given (length at.now) bounds.now representatives.now)) result out.old out.new }
     ensures lawless { (Sound (of_pixels at.now) → Lawful (given (length at.now) bounds.now representatives.now) → ⊥) → (result ≡ 0) × (out.new ≡ out.old) }
@@ -43,7 +44,6 @@ pub fn slip_read(
         return u16::from(refusal.number());
     }
     fill(at, 1024, |level| histogram.pixels_at(level));
-    fill(bounds, 256, |bin| table.bound(bin));
-    fill(representatives, 256, |bin| table.representative(bin));
+    fill_bins(&table, bounds, representatives);
     0
 }

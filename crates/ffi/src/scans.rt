@@ -37,7 +37,7 @@ fn write_rows<A, B, F: Fn(&[A], &mut [B]) -> Result<usize, Refusal>>(
         → ((row : _) (part : _) (written : _) (left : _) → F.post write row part written left → Wrote (fits row.now (length part.now)) (map f row.now) written part.now left.now)
         → Written f fits scan.entry.rows scan.entry.width scan.entry.cells.now out.old out.new result }
 {
-    // By place: of what is written through `chunks_mut` a proof knows nothing.
+    // By index: a proof knows nothing of what was written through `chunks_mut`.
     for i in 0..scan.rows {
         let place = span(out.len(), scan.width, i);
         if write(scan.row(i), &mut out[place]).is_err() {
@@ -48,7 +48,8 @@ fn write_rows<A, B, F: Fn(&[A], &mut [B]) -> Result<usize, Refusal>>(
 }
 
 // Writes the bin of each pixel of the first `rows` rows by the table of these bounds and representatives; gives how many
-// rows were written before one was refused. Nothing is written if the table does not keep the rules.
+// rows were written before one was refused. If the table does not keep the rules, nothing is written and it gives 0, since C
+// knows no `Option`.
 pub fn slip_index(
     levels: u16,
     bounds: &[u16],
@@ -72,7 +73,7 @@ pub fn slip_index(
     write_rows(scan, out, |row, part| table.index(row, part))
 }
 
-// Writes the grey of each index of the first `rows` rows, as indexing does.
+// Writes the grey of each index of the first `rows` rows, as indexing does; it, too, gives 0 if the table does not keep the rules.
 pub fn slip_show(
     levels: u16,
     bounds: &[u16],

@@ -8,7 +8,8 @@ ghost use Rattle.tablefile.specs.Promises.{write_row};
 ghost use Rattle.ffi.specs.Files.{Put, Got};
 
 // Writes the file of the histogram with these pixels and the table of these bounds and representatives over the first bytes of
-// the output; gives how many. Nothing is written where they make no histogram or no table, or the output is too short.
+// the output; gives how many. Where they make no histogram or no table, or the output is too short, nothing is written and it
+// gives 0, since C knows no `Option` and no `Result`.
 #[unsafe(no_mangle)]
 pub extern "C" fn slip_write(
     at: &[u32],
@@ -23,7 +24,7 @@ pub extern "C" fn slip_write(
 }
 
 // Reads a file, and writes the pixels at each level and each bin's bound and representative; gives 0, or the number of the
-// refusal.
+// refusal, since C knows no `Result`.
 #[unsafe(no_mangle)]
 pub extern "C" fn slip_read(
     file: &[u8],

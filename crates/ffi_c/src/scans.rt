@@ -21,7 +21,8 @@ pub extern "C" fn slip_count(
 }
 
 // Writes the bin of each pixel of the first `rows` rows by the table of these bounds and representatives; gives how many
-// rows were written before one was refused. Nothing is written if the table does not keep the rules.
+// rows were written before one was refused. If the table does not keep the rules, nothing is written and it gives 0, since C
+// knows no `Option`.
 #[unsafe(no_mangle)]
 pub extern "C" fn slip_index(
     levels: u16,
@@ -38,7 +39,7 @@ pub extern "C" fn slip_index(
     ffi::slip_index(levels, bounds, representatives, rows, width, scan, out)
 }
 
-// Writes the grey of each index of the first `rows` rows, as indexing does.
+// Writes the grey of each index of the first `rows` rows, as indexing does; it, too, gives 0 if the table does not keep the rules.
 #[unsafe(no_mangle)]
 pub extern "C" fn slip_show(
     levels: u16,

@@ -14,7 +14,7 @@ returns c =
     let histogram = c.read.new.histogram in
     let table = c.read.new.table in
     let reads = c.in_default.ensures in
-    let got : (row : Option Row) → Type 0 = λ row. Got row c.args.file.now 0 c.args.at.now c.fill.new.cells c.args.bounds.now c.fill-2.new.cells c.args.representatives.now c.fill-3.new.cells in
+    let got : (row : Option Row) → Type 0 = λ row. Got row c.args.file.now 0 c.args.at.now c.fill.new.cells c.args.bounds.now c.fill_bins.new.bounds c.args.representatives.now c.fill_bins.new.representatives in
     subst got (sym reads.0) (record {
       histogram = ledger_of histogram;
       table = table_of table;
@@ -22,6 +22,6 @@ returns c =
       reads = reads;
       accepted = refl;
       pixels_are = filled_weaker (λ k x given. search rules) c.fill.ensures;
-      bounds_are = filled_weaker (λ k x given. search rules) c.fill-2.ensures;
-      greys_are = filled_weaker (λ k x given. search rules) c.fill-3.ensures;
+      bounds_are = c.fill_bins.ensures.bounds;
+      greys_are = c.fill_bins.ensures.representatives;
     })
