@@ -37,9 +37,11 @@ pub(crate) fn histogram_of(levels: u16, scan: Rows<'_, u16>) -> Histogram
 {
     let mut histogram = Histogram::fresh();
     let _ = histogram.open(levels);
-    // By number: `chunks` takes no width of 0.
-    for i in 0..scan.rows {
-        let _ = histogram.count(scan.row(i));
+    // Rows of no pixels alter nothing, and `chunks` takes no width of 0.
+    if scan.width > 0 {
+        for row in scan.cells.chunks(scan.width).take(scan.rows) {
+            let _ = histogram.count(row);
+        }
     }
     histogram
 }

@@ -38,6 +38,7 @@ fn write_rows<A, B, F: Fn(&[A], &mut [B]) -> Result<usize, Refusal>>(
         → Written f fits scan.entry.rows scan.entry.width scan.entry.cells.now out.old out.new result }
 {
     // By index: a proof knows nothing of what was written through `chunks_mut`.
+    // Each row is asked for, also past the end of the scan: `write` may refuse a row of no pixels.
     for i in 0..scan.rows {
         let place = span(out.len(), scan.width, i);
         if write(scan.row(i), &mut out[place]).is_err() {
