@@ -7,6 +7,7 @@ use std::process::Abort;
 fn run(rt: &impl Abort, calls: &[Call<'_>], expected: &[Answer], place: &mut Histogram) {
     let mut answers = [Ok(None); 16];
     replay(calls, &mut answers, place);
+    // Answer by answer, so that a failure shows the one that differs.
     for (answer, wanted) in answers.iter().zip(expected.iter()) {
         assert_eq!(rt; *answer, *wanted);
     }
@@ -79,6 +80,7 @@ fn a_histogram_reads_what_was_counted(rt: HostRuntime) {
     assert_eq!(rt; place.darkest(), None);
     assert_eq!(rt; place.open(8), Ok(()));
     assert_eq!(rt; place.count(&[1, 1, 1, 3, 4, 7, 7, 7, 7]), Ok(9));
+    // By number, since a number that is no level is asked for too.
     for (level, pixels) in (0..).zip([0, 3, 0, 1, 1, 0, 0, 4, 0]) {
         assert_eq!(rt; place.pixels_at(level), pixels);
     }

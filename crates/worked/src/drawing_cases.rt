@@ -10,10 +10,15 @@ use std::alloc::Global;
 use std::fmt::Debug;
 use std::process::Abort;
 use std::test::Fail;
-use tables::LevelTable;
+use tables::{Bin, LevelTable};
 
-// A bin is its bound and its representative.
-type Bin = (u16, u16);
+// The bin up to this level, shown as this grey.
+fn bin(bound: u16, representative: u16) -> Bin {
+    Bin {
+        bound,
+        representative,
+    }
+}
 
 // The histogram of these pixels at eight levels.
 fn counted(pixels: &[u16]) -> Result<Histogram, Fail> {
@@ -28,15 +33,7 @@ fn nine_pixels() -> Result<Histogram, Fail> {
     counted(&[1, 1, 1, 3, 4, 7, 7, 7, 7])
 }
 
-fn check_bins(rt: &impl Abort, table: &LevelTable, bins: &[Bin]) -> Result<(), Fail> {
-    assert_eq!(rt; usize::from(table.bins()), bins.len());
-    for (bin, expected) in (0..).zip(bins) {
-        assert_eq!(rt; (table.bound(bin), table.representative(bin)), *expected);
-    }
-    Ok(())
-}
-
-// Draws at most `most` bins, which have these bounds and representatives and this tally.
+// Draws at most `most` bins, which are these and have this tally.
 fn check<P: Pricer>(
     rt: &impl Abort,
     heap: Global,
@@ -60,7 +57,8 @@ where
         &mut table,
     )?;
     assert_eq!(rt; receipt.tally, tally);
-    check_bins(rt, &table, bins)
+    assert_eq!(rt; table.as_slice(), bins);
+    Ok(())
 }
 
 #[test]
@@ -68,11 +66,11 @@ fn squares_are_summed(rt: HostRuntime) -> Result<(), Fail> {
     let histogram = nine_pixels()?;
     let mut centroid = CentroidPricer::new();
     let mut trial = TrialPricer::<Squared, Total>::new(Squared::new());
-    let each: &[Bin] = &[(1, 1), (3, 3), (4, 4), (7, 7)];
+    let each: &[Bin] = &[bin(1, 1), bin(3, 3), bin(4, 4), bin(7, 7)];
     let cases: [(u16, &[Bin], u64); 5] = [
-        (1, &[(7, 4)], 64),
-        (2, &[(4, 2), (7, 7)], 8),
-        (3, &[(1, 1), (4, 4), (7, 7)], 1),
+        (1, &[bin(7, 4)], 64),
+        (2, &[bin(4, 2), bin(7, 7)], 8),
+        (3, &[bin(1, 1), bin(4, 4), bin(7, 7)], 1),
         (4, each, 0),
         (256, each, 0),
     ];
@@ -101,7 +99,7 @@ fn the_higher_of_two_representatives(rt: HostRuntime) -> Result<(), Fail> {
         &mut CentroidPricer::new(),
         &pair,
         1,
-        &[(7, 4)],
+        &[bin(7, 4)],
         Total { sum: 1 },
     )
 }
@@ -116,7 +114,7 @@ fn other_measures(rt: HostRuntime) -> Result<(), Fail> {
         &mut distance,
         &histogram,
         1,
-        &[(7, 4)],
+        &[bin(7, 4)],
         Total { sum: 22 },
     )?;
     let mut allowance = TrialPricer::<Allowance<Squared>, Total>::new(Allowance::new(
@@ -129,7 +127,7 @@ fn other_measures(rt: HostRuntime) -> Result<(), Fail> {
         &mut allowance,
         &histogram,
         1,
-        &[(7, 4)],
+        &[bin(7, 4)],
         Total { sum: 35 },
     )?;
     let mut weights = WeightList::fresh();
@@ -144,7 +142,7 @@ fn other_measures(rt: HostRuntime) -> Result<(), Fail> {
         &mut weight,
         &histogram,
         1,
-        &[(7, 2)],
+        &[bin(7, 2)],
         Total { sum: 8 },
     )
 }
@@ -159,7 +157,7 @@ fn the_largest_error(rt: HostRuntime) -> Result<(), Fail> {
         &mut worst,
         &histogram,
         2,
-        &[(4, 3), (7, 7)],
+        &[bin(4, 3), bin(7, 7)],
         Worst { error: 4 },
     )?;
     let mut ceiling = TrialPricer::<Ceiling<Squared>, Worst>::new(Ceiling::new(Squared::new(), 9));
@@ -169,7 +167,7 @@ fn the_largest_error(rt: HostRuntime) -> Result<(), Fail> {
         &mut ceiling,
         &histogram,
         1,
-        &[(7, 7)],
+        &[bin(7, 7)],
         Worst { error: 9 },
     )
 }
@@ -179,7 +177,7 @@ fn refused_drawings_leave_the_table(rt: HostRuntime) -> Result<(), Fail> {
     let histogram = nine_pixels()?;
     let mut pricer = CentroidPricer::new();
     let mut table = LevelTable::fresh();
-    let none = Total { sum: 0 };
+    let none = Total::neutral();
     let receipt = draw(
         &mut pricer,
         &histogram,
@@ -218,5 +216,6 @@ fn refused_drawings_leave_the_table(rt: HostRuntime) -> Result<(), Fail> {
         );
         assert_eq!(rt; refused, Err(Refusal::BinsOutOfRange { most }));
     }
-    check_bins(&rt, &table, &[(4, 2), (7, 7)])
+    assert_eq!(rt; table.as_slice(), [bin(4, 2), bin(7, 7)].as_slice());
+    Ok(())
 }

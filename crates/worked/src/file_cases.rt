@@ -56,7 +56,7 @@ fn a_file_is_read_and_written_again(rt: HostRuntime) {
 
 #[test]
 fn a_file_cut_at_any_byte_ends_early(rt: HostRuntime) {
-    // A number and no list is gone over: each length is cut to, and named.
+    // The loop is over lengths, not over a list.
     for length in 0..LENGTH {
         let section = match length {
             0..=2 => 0,

@@ -27,14 +27,17 @@ fn digit(byte: u8) -> anyhow::Result<u8>
     }
 }
 
-// The bytes that a line of a case writes, two digits each. The kit's `hex` would also take capitals, and refuse a lone last digit.
+// The bytes that a line of a case writes, two digits each. Capitals are refused, and a lone last digit is ignored: a line that was
+// taken or refused still is, which the kit's `hex` would not keep, since it takes capitals and refuses a lone digit.
 fn bytes_of(heap: Global, line: &str) -> anyhow::Result<Vec<u8>> {
     let mut bytes = Vec::new(heap);
     if line == "(empty)" {
         return Ok(bytes);
     }
-    for pair in line.as_bytes().chunks_exact(2) {
-        bytes.push(16 * digit(pair[0])? + digit(pair[1])?)?;
+    let (pairs, _) = line.as_bytes().as_chunks::<2>();
+    // A loop, since a digit may be none and a push may find no memory: two kinds of error, which a chain cannot bring together.
+    for [high, low] in pairs {
+        bytes.push(16 * digit(*high)? + digit(*low)?)?;
     }
     Ok(bytes)
 }
