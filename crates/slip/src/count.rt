@@ -1,4 +1,4 @@
-// Counting a scan row by row.
+// What a scan holds: its pixels counted, and what equal steps of grey would cost.
 use counting::Histogram;
 use refusals::Refusal;
 use scans::Scan;

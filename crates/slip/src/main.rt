@@ -3,12 +3,13 @@
 #![tactic(auto)]
 
 mod count;
+mod stop;
 mod store;
 mod tell;
 
 use std::io::{BufReader, Read};
 use std::{env, fs, io};
-use tell::Stop;
+use stop::Stop;
 
 // In how many greys the slip is stored where no number is given.
 const GREYS: u16 = 16;
@@ -43,6 +44,7 @@ fn main(rt: HostRuntime) -> io::Result<()> {
     let wanted = asked_for(&rt)?;
     let made = match tell::slip(&rt, &scan, wanted.greys) {
         Ok(made) => made,
+        Err(Stop::Memory(error)) => return Err(error.into()),
         Err(Stop::Failed(error)) => return Err(error),
         Err(refused) => return println!(rt; "{refused}"),
     };

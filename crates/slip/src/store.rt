@@ -1,5 +1,5 @@
 // What a branch stores of a slip, and what another shows.
-use refusals::Refusal;
+use crate::stop::Stop;
 use scans::Scan;
 use std::alloc::{AllocError, Global};
 use tables::LevelTable;
@@ -24,11 +24,7 @@ fn farthest(pixels: &[u16], greys: &[u16]) -> u16 {
 }
 
 /// Indexes and shows the slip row by row.
-pub fn show_scan(
-    heap: Global,
-    table: &LevelTable,
-    scan: &Scan,
-) -> Result<Result<Shown, Refusal>, AllocError> {
+pub fn show_scan(heap: Global, table: &LevelTable, scan: &Scan) -> Result<Shown, Stop> {
     let width = usize::from(scan.width);
     let mut indices = vec![in heap; 0u8; scan.pixels.len()]?;
     let mut greys = vec![in heap; 0u16; scan.pixels.len()]?;
@@ -36,16 +32,16 @@ pub fn show_scan(
         .chunks_exact_mut(width)
         .zip(greys.chunks_exact_mut(width));
     for (row, (indices, greys)) in scan.rows().zip(places) {
-        if let Err(refusal) = table.index_and_show(row, indices, greys) {
-            return Ok(Err(refusal));
-        }
+        table
+            .index_and_show(row, indices, greys)
+            .map_err(Stop::Rows)?;
     }
     let farthest = farthest(scan.pixels.as_slice(), greys.as_slice());
-    Ok(Ok(Shown {
+    Ok(Shown {
         indices,
         greys,
         farthest,
-    }))
+    })
 }
 
 /// The reduced picture in the PGM format, P5, with the scan's size and maximum value.
@@ -55,6 +51,7 @@ pub fn picture(heap: Global, scan: &Scan, greys: &[u16]) -> Result<Vec<u8>, Allo
     let maximum = scan.maximum;
     let header = format!(in heap; "P5\n{width} {height}\n{maximum}\n")?;
     let mut bytes = header.into_bytes();
+    // A loop, since a pixel takes one byte or two, and each push may find no memory.
     for grey in greys {
         let [high, low] = grey.to_be_bytes();
         if maximum > 255 {

@@ -1,44 +1,21 @@
 // Each step of a slip's way, with its answer.
 use crate::count::{count_scan, equal_steps};
+use crate::stop::Stop;
 use crate::store::{Shown, picture, show_scan};
 use counting::Histogram;
 use divisions::bins;
 use drawing::{Receipt, draw};
-use pricing::{CentroidPricer, Squared, Total, TrialPricer, both_prices};
-use refusals::Refusal;
+use pricing::{CentroidPricer, Squared, Tally, Total, TrialPricer, both_prices};
 use scans::Scan;
-use std::alloc::AllocError;
 use std::io;
 use tablefile::round_trip;
 use tables::LevelTable;
-use thiserror::Error;
 
 /// What a slip is stored as: the bytes of its table file, and of the picture that is shown.
 #[derive(Drop)]
 pub struct Made {
     pub table_file: Vec<u8>,
     pub picture: Vec<u8>,
-}
-
-/// Why a slip's way ends early: a step was refused, or memory or output failed.
-#[derive(Debug, Drop, Error)]
-pub enum Stop {
-    #[error("count: refused {0}")]
-    Count(Refusal),
-    #[error("draw: refused {0}")]
-    Draw(Refusal),
-    #[error("table file: refused {0}")]
-    TableFile(Refusal),
-    #[error("rows: refused {0}")]
-    Rows(Refusal),
-    #[error(transparent)]
-    Failed(#[from] io::Error),
-}
-
-impl From<AllocError> for Stop {
-    fn from(error: AllocError) -> Stop {
-        Stop::Failed(error.into())
-    }
 }
 
 /// The whole way of a slip that is stored in at most `greys` greys.
@@ -107,7 +84,7 @@ fn one_grey(rt: &HostRuntime, histogram: &Histogram) -> io::Result<()> {
 fn drawn(rt: &HostRuntime, histogram: &Histogram, greys: u16) -> Result<LevelTable, Stop> {
     let counted = histogram.counted_levels();
     let cells = usize::from(counted) * usize::from(bins(counted, greys));
-    let mut tallies = vec![in rt.alloc(); Total { sum: 0 }; cells]?;
+    let mut tallies = vec![in rt.alloc(); Total::neutral(); cells]?;
     let mut links = vec![in rt.alloc(); 0u16; cells]?;
     let mut table = LevelTable::fresh();
     let receipt = draw(
@@ -127,6 +104,7 @@ fn drawn(rt: &HostRuntime, histogram: &Histogram, greys: u16) -> Result<LevelTab
 
 /// The bins of the table.
 fn listed(rt: &HostRuntime, table: &LevelTable) -> io::Result<()> {
+    // Where a bin begins is told by the bin below it.
     let mut first = 0u16;
     for bin in table.as_slice() {
         let bound = bin.bound;
@@ -174,7 +152,7 @@ fn filed(
 
 /// Every row indexed and shown by the table that was read.
 fn shown(rt: &HostRuntime, scan: &Scan, table: &LevelTable) -> Result<Shown, Stop> {
-    let shown = show_scan(rt.alloc(), table, scan)?.map_err(Stop::Rows)?;
+    let shown = show_scan(rt.alloc(), table, scan)?;
     let before = scan.pixels.len().saturating_mul(2);
     let after = shown.indices.len();
     let farthest = shown.farthest;
