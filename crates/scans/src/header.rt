@@ -65,7 +65,7 @@ impl Header {
 pub fn is_white(byte: u8) -> bool
     ensures { result ≡ white byte }
 {
-    matches!(byte, 9..=13 | b' ')
+    matches!(byte, b'\t'..=b'\r' | b' ')
 }
 
 fn ends_line(byte: u8) -> bool

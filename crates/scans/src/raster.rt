@@ -1,4 +1,6 @@
-// The raster of a PGM file: the samples, and the pixels that they give. A sample takes one byte where the maximum value is below 256, else two, the more significant first.
+// The raster of a PGM file: the samples, and the pixels that they give. A sample takes one byte where the maximum value is below
+// 256, else two, the more significant first. Bytes and pairs of bytes are two types, so what goes over the samples has a chain
+// for each size.
 ghost use Rattle.std.specs.Prelude.{◌≡◌, ◌*◌, true, length, drop, IfOk, Some, None, MatchResult};
 ghost use Rattle.scans.specs.Pgm.{raster_fault};
 ghost use Rattle.scans.specs.Raster.{sample_size, pixels_of, within};
@@ -59,7 +61,7 @@ pub fn bytes_per_sample(maximum: u16) -> usize
     if maximum < 256 { 1 } else { 2 }
 }
 
-// Whether no pixel is above the maximum value. Bytes and pairs of bytes are two types, so each size of a sample has its chain.
+// Whether no pixel is above the maximum value.
 fn all_within(maximum: u16, samples: &[u8]) -> bool
     ensures { result ≡ within maximum (pixels_of maximum samples.now) }
 {

@@ -8,6 +8,7 @@ use std::slice::ChunksExact;
 /// A grey scan: its size in pixels, the maximum value of a pixel, and the pixels, row after row from the upper left corner on.
 #[derive(Drop)]
 pub struct Scan {
+    // A `Header` has these three fields and their facts too: they are public here, so the scan has them itself.
     pub width: u16,
     pub height: u16,
     pub maximum: u16,
