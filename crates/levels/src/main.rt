@@ -2,8 +2,7 @@
 #![tactic(auto)]
 
 use branch::report;
-use std::io;
-use std::io::{BufReader, Read};
+use std::io::{self, BufReader, Read};
 
 fn read_and_report(rt: &HostRuntime) -> io::Result<String> {
     let mut input = Vec::new(rt.alloc());
