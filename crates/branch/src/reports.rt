@@ -62,9 +62,13 @@ fn answer(heap: Global, levels: u16, most: u16, row: &[u16]) -> Result<String, A
 pub fn report(heap: Global, input: &[u8]) -> Result<String, AllocError>
     ensures { IfOk result (λ text. Reported input.now (string_bytes text)) }
 {
+    // Before memory is taken for the numbers of an input that turns out to be short.
+    if input.len() % 2 == 1 {
+        return String::from_str(heap, "input short\n");
+    }
     let numbers = numbers(heap, input)?;
     match numbers.as_slice() {
-        [levels, most, row @ ..] if input.len() % 2 == 0 => answer(heap, *levels, *most, row),
+        [levels, most, row @ ..] => answer(heap, *levels, *most, row),
         _ => String::from_str(heap, "input short\n"),
     }
 }

@@ -3,12 +3,11 @@ use crate::count::{count_scan, equal_steps};
 use crate::stop::Stop;
 use crate::store::{Shown, picture, show_scan};
 use counting::Histogram;
-use divisions::bins;
-use drawing::{Receipt, draw};
+use drawing::{Receipt, cells, draw};
 use pricing::{CentroidPricer, Squared, Tally, Total, TrialPricer, both_prices};
 use scans::Scan;
 use std::io;
-use tablefile::round_trip;
+use tablefile::{file_length, round_trip};
 use tables::LevelTable;
 
 /// What a slip is stored as: the bytes of its table file, and of the picture that is shown.
@@ -82,8 +81,7 @@ fn one_grey(rt: &HostRuntime, histogram: &Histogram) -> io::Result<()> {
 
 /// The table, and what it is worth.
 fn drawn(rt: &HostRuntime, histogram: &Histogram, greys: u16) -> Result<LevelTable, Stop> {
-    let counted = histogram.counted_levels();
-    let cells = usize::from(counted) * usize::from(bins(counted, greys));
+    let cells = cells(histogram, greys);
     let mut tallies = vec![in rt.alloc(); Total::neutral(); cells]?;
     let mut links = vec![in rt.alloc(); 0u16; cells]?;
     let mut table = LevelTable::fresh();
@@ -132,8 +130,7 @@ fn filed(
     histogram: &Histogram,
     table: &LevelTable,
 ) -> Result<(Vec<u8>, LevelTable), Stop> {
-    let room = 7 + 6 * usize::from(histogram.counted_levels()) + 4 * usize::from(table.bins());
-    let mut file = vec![in rt.alloc(); 0u8; room]?;
+    let mut file = vec![in rt.alloc(); 0u8; file_length(histogram, table)]?;
     let mut histogram_back = Histogram::fresh();
     let mut table_back = LevelTable::fresh();
     let written = round_trip(
