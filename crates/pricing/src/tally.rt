@@ -14,7 +14,8 @@ pub trait Tally: Copy {
     fn join(self, other: Self) -> Self
         ensures { result ≡ ops.join self other };
 
-    // Whether this is at most the other. A kind compares the one number that it holds: a derived order would be no plainer.
+    // Whether this is at most the other. An `Ord` in its place would have to be tied to the laws' `not_above` by one law
+    // more, and nothing else compares tallies.
     fn not_above(self, other: Self) -> bool
         ensures { result ≡ ops.not_above self other };
 

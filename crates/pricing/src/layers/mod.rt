@@ -1,4 +1,5 @@
-// The layers: each holds a measure, changes its error and is a measure again.
+// The layers: each holds a measure, changes its error and is a measure again. Each changes it otherwise, under one trait
+// with its laws: they are no twins.
 mod allowance;
 mod ceiling;
 mod errors;

@@ -24,7 +24,7 @@ impl Measure for Squared {
         ensures same { SameErrors squared squared }
         ensures kept { self.new ≡ self.old }
     {
-        apart(k, r) * apart(k, r)
+        apart(k, r).pow(2)
     }
 }
 

@@ -1,4 +1,4 @@
-// The plain measures.
+// The plain measures: two functions under one trait with its laws, and no twins.
 mod errors;
 mod plain;
 
