@@ -6,16 +6,16 @@ ghost use Rattle.pricing.specs.Prices.{Priced};
 
 use super::level_range::LevelRange;
 use crate::tallies::Total;
-use counting::Histogram;
 
-// The representative and the price of the levels from `a` to `b`: the level nearest to the mean, the half
-// taken upwards, has the least sum of squared errors.
-pub(super) fn centroid(histogram: &Histogram, a: u16, b: u16) -> Option<(u16, Total)>
-    ensures { Priced total_ops squared (ledger_of histogram.now) a b result }
-{
-    let range = LevelRange::of(histogram, a, b)?;
-    let sums = range.sums();
-    let r = sums.nearest()?;
-    let sum = sums.squared_errors(r);
-    Some((r, Total { sum }))
+impl LevelRange<'_> {
+    // The representative and the price of the levels: the level nearest to the mean, the half taken upwards,
+    // has the least sum of squared errors.
+    pub(super) fn centroid(&self) -> Option<(u16, Total)>
+        ensures { Priced total_ops squared (ledger_of self.now.histogram.now) self.now.first self.now.last result }
+    {
+        let sums = self.sums();
+        let r = sums.nearest()?;
+        let sum = sums.squared_errors(r);
+        Some((r, Total { sum }))
+    }
 }

@@ -39,6 +39,7 @@ impl<'a> LevelRange<'a> {
         &self.histogram.pixels()[usize::from(self.first)..=usize::from(self.last)]
     }
 
+    // Both searches go level by level: over the slice they would find a place, to be cast and added to `first`.
     pub(super) fn lowest_counted(&self) -> Option<u16>
         ensures { MatchOption result (NoneCounted (ledger_of self.now.histogram.now) self.now.first self.now.last) (λ low. LowestCounted (ledger_of self.now.histogram.now) self.now.first self.now.last low) }
     {

@@ -7,9 +7,8 @@ ghost use Rattle.pricing.specs.Measures.{squared};
 ghost use Rattle.pricing.specs.Prices.{Priced};
 ghost use Rattle.pricing.specs.ErrorLaws.{squared_fair};
 
-use super::centroid::centroid;
 use super::centroid_pricer::CentroidPricer;
-use super::trial::trial;
+use super::level_range::LevelRange;
 use super::trial_pricer::TrialPricer;
 use crate::measure::Measure;
 use crate::pricer::Pricer;
@@ -37,7 +36,7 @@ impl<M: Measure, T: Tally> Pricer for TrialPricer<M, T> {
         ensures answer { Priced T.ops (M.error self.old.measure) (ledger_of histogram.now) a b result }
         ensures same { SameErrors (M.error self.new.measure) (M.error self.old.measure) }
     {
-        trial(&mut self.measure, histogram, a, b)
+        LevelRange::of(histogram, a, b)?.trial(&mut self.measure)
     }
 }
 
@@ -63,6 +62,6 @@ impl Pricer for CentroidPricer {
         ensures same { SameErrors squared squared }
         ensures kept { self.new ≡ self.old }
     {
-        centroid(histogram, a, b)
+        LevelRange::of(histogram, a, b)?.centroid()
     }
 }

@@ -26,7 +26,7 @@ impl LevelRange<'_> {
         let mut squares = 0;
         for (place, count) in self.pixels().iter().enumerate() {
             let count = u64::from(*count);
-            // A place among the levels is below 1,024, which no `From` knows.
+            // The cast loses nothing, which is proved: there are at most 1,024 levels.
             let level = u32::from(self.first) + place as u32;
             pixels += count;
             levels += count * u64::from(level);
@@ -49,7 +49,7 @@ impl Sums {
             return None;
         }
         let level = (2 * self.levels + self.pixels) / (2 * self.pixels);
-        // below 1,024, and so no `TryFrom`
+        // The cast loses nothing, which is proved: the level is below 1,024.
         Some(level as u16)
     }
 

@@ -8,7 +8,6 @@ ghost use Rattle.pricing.specs.Spans.{LowestAt};
 use super::level_range::LevelRange;
 use crate::measure::Measure;
 use crate::tally::Tally;
-use counting::Histogram;
 
 // The better of two levels, each with the tally of showing a range as it. Of equal tallies the later wins.
 fn better<T: Tally>(best: (u16, T), next: (u16, T)) -> (u16, T)
@@ -18,6 +17,16 @@ fn better<T: Tally>(best: (u16, T), next: (u16, T)) -> (u16, T)
 }
 
 impl LevelRange<'_> {
+    // The representative and the price of the levels.
+    pub(super) fn trial<M: Measure, T: Tally>(&self, measure: &mut M) -> Option<(u16, T)>
+        ensures answer { Priced T.ops (M.error measure.old) (ledger_of self.now.histogram.now) self.now.first self.now.last result }
+        ensures same { SameErrors (M.error measure.new) (M.error measure.old) }
+    {
+        let low = self.lowest_counted()?;
+        let high = self.highest_counted()?;
+        Some(self.lowest(measure, low, high))
+    }
+
     // The tally of showing the levels as `r`.
     fn tally<M: Measure, T: Tally>(&self, measure: &mut M, r: u16) -> T
         requires { r < 1024 }
@@ -27,7 +36,7 @@ impl LevelRange<'_> {
         let mut tally = T::neutral();
         for (place, pixels) in self.pixels().iter().enumerate() {
             if *pixels > 0 {
-                // A place among the levels is below 1,024, which no `From` knows.
+                // The cast loses nothing, which is proved: there are at most 1,024 levels.
                 let level = self.first + place as u16;
                 tally = T::charge(*pixels, measure.error(level, r)).join(tally);
             }
@@ -49,20 +58,4 @@ impl LevelRange<'_> {
         }
         best
     }
-}
-
-// The representative and the price of the levels from `a` to `b`.
-pub(super) fn trial<M: Measure, T: Tally>(
-    measure: &mut M,
-    histogram: &Histogram,
-    a: u16,
-    b: u16,
-) -> Option<(u16, T)>
-    ensures answer { Priced T.ops (M.error measure.old) (ledger_of histogram.now) a b result }
-    ensures same { SameErrors (M.error measure.new) (M.error measure.old) }
-{
-    let range = LevelRange::of(histogram, a, b)?;
-    let low = range.lowest_counted()?;
-    let high = range.highest_counted()?;
-    Some(range.lowest(measure, low, high))
 }
