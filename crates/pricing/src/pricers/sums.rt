@@ -26,7 +26,8 @@ impl LevelRange<'_> {
         let mut squares = 0;
         for (place, count) in self.pixels().iter().enumerate() {
             let count = u64::from(*count);
-            // The cast loses nothing, which is proved: there are at most 1,024 levels.
+            // The cast loses nothing, which is proved: there are at most 1,024 levels. A `zip` with the levels needs
+            // no cast, and takes a sixth longer.
             let level = u32::from(self.first) + place as u32;
             pixels += count;
             levels += count * u64::from(level);

@@ -36,7 +36,8 @@ impl LevelRange<'_> {
         let mut tally = T::neutral();
         for (place, pixels) in self.pixels().iter().enumerate() {
             if *pixels > 0 {
-                // The cast loses nothing, which is proved: there are at most 1,024 levels.
+                // The cast loses nothing, which is proved: there are at most 1,024 levels. A `zip` with the levels
+                // needs no cast, and takes half as long again.
                 let level = self.first + place as u16;
                 tally = T::charge(*pixels, measure.error(level, r)).join(tally);
             }
