@@ -1,5 +1,5 @@
 // The weights of the levels from 0 on.
-ghost use Rattle.std.specs.Prelude.{◌≡◌, [], ◌∷◌};
+ghost use Rattle.std.specs.Prelude.{◌≡◌, ◌≤◌, [], ◌∷◌, length};
 ghost use Rattle.pricing.specs.Measures.{weight_at};
 ghost use Rattle.pricing.specs.Weights.{Filled};
 
@@ -50,7 +50,8 @@ impl WeightList {
 
     // A level that the list does not reach weighs 1.
     pub fn weight(&self, level: u16) -> u8
-        ensures { result ≡ weight_at self.now level }
+        ensures value { result ≡ weight_at self.now level }
+        ensures range { (1 ≤ length self.now) × (length self.now ≤ 1024) }
     {
         self.weights.get(usize::from(level)).copied().unwrap_or(1)
     }
