@@ -35,7 +35,7 @@ fn bytes_of(heap: Global, line: &str) -> anyhow::Result<Vec<u8>> {
         return Ok(bytes);
     }
     let (pairs, _) = line.as_bytes().as_chunks::<2>();
-    // A loop, since a digit may be none and a push may find no memory: two kinds of error, which a chain cannot bring together.
+    // A loop: a digit may be none and a push may find no memory, and with two kinds of error a chain is no plainer.
     for [high, low] in pairs {
         bytes.push(16 * digit(*high)? + digit(*low)?)?;
     }
