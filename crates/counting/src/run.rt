@@ -5,6 +5,7 @@ ghost use Rattle.counting.specs.Runs.{Performed, Replayed};
 use crate::Histogram;
 use refusals::Refusal;
 
+// A call as a value, so that a list of calls can be spoken of.
 #[derive(Clone, Copy)]
 pub enum Call<'a> {
     Open(u16),

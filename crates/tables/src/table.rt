@@ -16,7 +16,8 @@ pub struct Bin {
     pub representative: u16,
 }
 
-// Bins are numbered from 0. `of_level` has the bin of each level, so that a row is indexed by look-up.
+// Bins are numbered from 0. `of_level` has the bin of each level, so that a row is indexed by look-up. The rules are ghost fields,
+// which every proof above reads off a table; by a model they would be hidden, and three contracts would have to say them.
 #[derive(Drop)]
 pub struct LevelTable {
     levels: u16,

@@ -1,4 +1,5 @@
-// Pricing by trying each representative, for any measure and any tally.
+// Pricing by trying each representative, for any measure and any tally. `same` stands in each contract: what a call leaves of a
+// measure that it is lent is a fact about the call.
 ghost use Rattle.std.specs.Prelude.{◌≡◌, ◌<◌, ◌≤◌, if◌then◌else◌};
 ghost use Rattle.counting.specs.Meaning.{ledger_of};
 ghost use Rattle.pricing.specs.Errors.{SameErrors};
@@ -53,6 +54,7 @@ impl LevelRange<'_> {
         ensures same { SameErrors (M.error measure.new) (M.error measure.old) }
     {
         let mut best = (low, self.tally(measure, low));
+        // Over levels, which are in no list: one that is not counted may be the best too.
         for r in low + 1..=high {
             let tally = self.tally(measure, r);
             best = better(best, (r, tally));

@@ -83,7 +83,7 @@ impl LevelTable {
         })
     }
 
-    // The table of these bounds and representatives, if they keep the rules.
+    // The table of these bounds and representatives, if they keep the rules: two lists, as C lends them.
     pub fn of(levels: u16, bounds: &[u16], representatives: &[u16]) -> Option<LevelTable>
         ensures { MatchOption result (Lawful (given levels bounds.now representatives.now) → ⊥) (λ t. table_of t ≡ given levels bounds.now representatives.now) }
     {
