@@ -62,7 +62,7 @@ fn answer(heap: Global, levels: u16, most: u16, row: &[u16]) -> Result<String, A
 pub fn report(heap: Global, input: &[u8]) -> Result<String, AllocError>
     ensures { IfOk result (λ text. Reported input.now (string_bytes text)) }
 {
-    // Before memory is taken for the numbers of an input that turns out to be short.
+    // A lone last byte is looked for before memory is taken for the numbers.
     if input.len() % 2 == 1 {
         return String::from_str(heap, "input short\n");
     }

@@ -17,6 +17,7 @@ pub struct Drawn {
     pub compared: u64,
 }
 
+// Each `From` is written out, since its clause says every field.
 impl From<Receipt<Total>> for Drawn {
     ghost from_gives = { λ receipt drawn. drawn ≡ record {
       refusal = 0;

@@ -1,4 +1,4 @@
-// The errors of the plain measures.
+// The errors of the plain measures. `same` and `kept` stand in each contract: what a call leaves of a measure is a fact about the call.
 ghost use Rattle.std.specs.Prelude.{◌≡◌, min};
 ghost use Rattle.pricing.specs.Errors.{SameErrors};
 ghost use Rattle.pricing.specs.Measures.{squared, distance};

@@ -1,4 +1,4 @@
-// The pricers.
+// The pricers: one tries each level, and one takes the mean, which serves squares and sums alone; they are no twins.
 mod centroid;
 mod centroid_pricer;
 mod level_range;

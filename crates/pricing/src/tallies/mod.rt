@@ -1,4 +1,4 @@
-// The kinds of tally.
+// The kinds of tally: a sum and a maximum under one trait with its laws, and no twins.
 mod kinds;
 mod total;
 mod worst;
