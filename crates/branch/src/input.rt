@@ -9,8 +9,8 @@ pub fn numbers(heap: Global, input: &[u8]) -> Result<Vec<u16>, AllocError>
     ensures { IfOk result (λ v. v.items ≡ numbers_of input.now) }
 {
     let (pairs, _) = input.as_chunks::<2>();
-    pairs
-        .iter()
-        .map(|pair| u16::from_be_bytes(*pair))
-        .collect(heap)
+    // All memory is taken first: where there is too little, `collect` would fill what there is before it gives up.
+    let mut numbers = Vec::with_capacity(heap, pairs.len())?;
+    numbers.extend(pairs.iter().map(|pair| u16::from_be_bytes(*pair)))?;
+    Ok(numbers)
 }

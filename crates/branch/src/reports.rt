@@ -62,13 +62,14 @@ fn answer(heap: Global, levels: u16, most: u16, row: &[u16]) -> Result<String, A
 pub fn report(heap: Global, input: &[u8]) -> Result<String, AllocError>
     ensures { IfOk result (λ text. Reported input.now (string_bytes text)) }
 {
-    // A lone last byte is looked for before memory is taken for the numbers.
-    if input.len() % 2 == 1 {
+    // Before memory is taken for the numbers.
+    if input.len() < 4 || input.len() % 2 == 1 {
         return String::from_str(heap, "input short\n");
     }
     let numbers = numbers(heap, input)?;
     match numbers.as_slice() {
         [levels, most, row @ ..] => answer(heap, *levels, *most, row),
-        _ => String::from_str(heap, "input short\n"),
+        // Four bytes or more have two numbers.
+        _ => unreachable!(),
     }
 }

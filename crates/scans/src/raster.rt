@@ -79,16 +79,14 @@ fn all_within(maximum: u16, samples: &[u8]) -> bool
 fn decode(heap: Global, maximum: u16, samples: &[u8]) -> Result<Vec<u16>, AllocError>
     ensures { IfOk result (λ v. v.items ≡ pixels_of maximum samples.now) }
 {
+    // All memory is taken first: where there is too little, `collect` would fill what there is before it gives up.
+    let mut pixels = Vec::with_capacity(heap, samples.len() / bytes_per_sample(maximum))?;
     if maximum < 256 {
-        samples
-            .iter()
-            .map(|sample| u16::from(*sample))
-            .collect(heap)
+        pixels.extend(samples.iter().map(|sample| u16::from(*sample)))?;
+        Ok(pixels)
     } else {
         let (samples, _) = samples.as_chunks();
-        samples
-            .iter()
-            .map(|sample| u16::from_be_bytes(*sample))
-            .collect(heap)
+        pixels.extend(samples.iter().map(|sample| u16::from_be_bytes(*sample)))?;
+        Ok(pixels)
     }
 }
