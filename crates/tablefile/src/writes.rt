@@ -68,11 +68,18 @@ impl Writer<'_> {
     }
 }
 
+// How many bytes a file with so many levels in section 1 and so many bins has.
+fn length_with(counted: u16, bins: u16) -> usize
+    ensures { result ≡ 7 + 6 * counted + 4 * bins }
+{
+    7 + 6 * usize::from(counted) + 4 * usize::from(bins)
+}
+
 // How many bytes the histogram and the table have as a file, and so how many have to be lent for it.
 pub fn file_length(histogram: &Histogram, table: &LevelTable) -> usize
     ensures { result ≡ length (bytes_of (ledger_of histogram.now) (table_of table.now)) }
 {
-    7 + 6 * usize::from(histogram.counted_levels()) + 4 * usize::from(table.bins())
+    length_with(histogram.counted_levels(), table.bins())
 }
 
 // Writes the file of the histogram and the table over the first bytes of the output; gives how many.
@@ -86,15 +93,18 @@ pub fn write(histogram: &Histogram, table: &LevelTable, out: &mut [u8]) -> Resul
             table: table.levels(),
         });
     }
-    let needed = file_length(histogram, table);
+    // Counted once: the length and section 1 both have the number.
+    let counted = histogram.counted_levels();
+    let bins = table.bins();
+    let needed = length_with(counted, bins);
     if out.len() < needed {
         return Err(Refusal::OutputTooShort { needed });
     }
     let mut writer = Writer::new(out);
     writer.put_head(levels);
-    writer.put(histogram.counted_levels().to_be_bytes());
+    writer.put(counted.to_be_bytes());
     writer.put_levels(histogram);
-    writer.put(table.bins().to_be_bytes());
+    writer.put(bins.to_be_bytes());
     writer.put_bins(table);
     Ok(needed)
 }

@@ -58,7 +58,10 @@ impl Histogram {
     pub fn counted_levels(&self) -> u16
         ensures { result ≡ counted_levels (ledger_of self.now) }
     {
-        self.pixels().iter().filter(|pixels| **pixels > 0).count() as u16
+        self.pixels()
+            .iter()
+            .map(|pixels| u16::from(*pixels > 0))
+            .sum()
     }
 
     // The lowest level that has pixels.
