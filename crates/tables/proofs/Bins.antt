@@ -1,10 +1,10 @@
--- Each bin in turn fills the levels up to its bound, so that each level has its lowest bin; and a table keeps the rules.
-use Rattle.std.proofs.Common.{◌≡◌, ℕ, ◌+◌, ◌-◌, ◌<◌, ◌≤◌, ltb, List, length, get_or, take, replicate, refl, sym, ap, ◌∙◌, inl, inr, arith, length-append, length-drop}
+-- What a test of neighbours says of bounds; each bin in turn fills the levels up to its bound, so that each level has its lowest bin; and a table keeps the rules.
+use Rattle.std.proofs.Common.{◌≡◌, ℕ, ◌+◌, ◌-◌, ◌<◌, ◌≤◌, Bool, true, false, ltb, List, length, get_or, take, replicate, Decides, refl, sym, ap, ◌∙◌, inl, inr, arith, length-append, length-drop}
 use borrow.Rule.Slice.PartMut.{put_mid}
-use Rattle.std.specs.List.{prefix_len, AllAdjacentBelow}
+use Rattle.std.specs.List.{prefix_len, AllAdjacentBelow, IsAllAdjacentAnswer}
 use Rattle.std.proofs.lemmas.List.Sorted.{IsNonDecreasingBy-from_all_adjacent}
 use Rattle.std.proofs.lemmas.List.Sums.{prefix_len_is}
-use Rattle.std.proofs.lemmas.Bool.{lt-ltb, le-ltb, cases_lt, cases_eq}
+use Rattle.std.proofs.lemmas.Bool.{ltb-true, lt-ltb, le-ltb, false≢true, cases_lt, cases_eq}
 use Rattle.std.proofs.lemmas.List.{length-map, get_or-map, length-take-le, get_or-take, get_or_append_left, get_or-append_right, get_or-replicate, get_or_default, length-replicate}
 use Rattle.tables.specs.Table.{Table, Lawful}
 use Rattle.tables.specs.Bins.{bounds_in, representatives_in}
@@ -22,6 +22,22 @@ bound_at bins i h = get_or-map (λ bin. bin.bound) bins i no_bin 0 h
 
 pub representative_at : (bins : List Bin) (i : ℕ) → i < length bins → get_or (representatives_in bins) i 0 ≡ (get_or bins i no_bin).representative
 representative_at bins i h = get_or-map (λ bin. bin.representative) bins i no_bin 0 h
+
+-- neighbours compared one by one say whether the bounds rise, whatever the items are whose bounds they are
+pub risen : {X : Type 0} (bound_of : X → ℕ) (none : X) (items : List X) (bounds : List ℕ) → length bounds ≡ length items →
+    ((i : ℕ) → i < length items → get_or bounds i 0 ≡ bound_of (get_or items i none)) →
+    (r : Bool) → IsAllAdjacentAnswer (λ low high b. b ≡ ltb (bound_of low) (bound_of high)) items r →
+    Decides r ((i : ℕ) → i + 1 < length bounds → get_or bounds i 0 < get_or bounds (i + 1) 0)
+risen bound_of none items bounds long at true each = (
+  λ _ i h. omega (arith, at i (omega arith), at (i + 1) (omega arith), ltb-true _ _ (sym (each i none (omega arith)))),
+  λ _. refl,
+)
+risen bound_of none items bounds long at false some = (
+  λ e. absurd (false≢true e),
+  λ all. (
+      let up = all some.0 (omega (arith, some.1)) in
+      absurd (false≢true (some.2 none ∙ lt-ltb _ _ (omega (arith, at some.0 (omega (arith, some.1)), at (some.0 + 1) some.1))))),
+)
 
 -- the bins below `bin` have filled the levels below `first`
 pub record Binning (bounds of_level : List ℕ) (bin first : ℕ) : Type 0 where

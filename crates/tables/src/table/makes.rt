@@ -51,13 +51,13 @@ fn bins_of_levels(bins: &[Bin]) -> [u8; 1024]
     of_level
 }
 
-// Each bound with its representative, where there are as many of both and no more than a table holds.
-fn paired(bounds: &[u16], representatives: &[u16]) -> Option<ArrayVec<Bin, 256>>
-    ensures { MatchOption result (length representatives.now ≡ length bounds.now → length bounds.now ≤ 256 → ⊥) (λ bins. (bounds_in bins.items ≡ bounds.now) × (representatives_in bins.items ≡ representatives.now)) }
+// Each bound with its representative.
+fn paired(bounds: &[u16], representatives: &[u16]) -> ArrayVec<Bin, 256>
+    requires as_many { length representatives.now ≡ length bounds.now }
+    requires few { length bounds.now ≤ 256 }
+    ensures bounds { bounds_in result.items ≡ bounds.now }
+    ensures representatives { representatives_in result.items ≡ representatives.now }
 {
-    if representatives.len() != bounds.len() || bounds.len() > 256 {
-        return None;
-    }
     let mut bins = ArrayVec::new();
     for (bound, representative) in bounds.iter().zip(representatives) {
         bins.push(Bin {
@@ -65,7 +65,7 @@ fn paired(bounds: &[u16], representatives: &[u16]) -> Option<ArrayVec<Bin, 256>>
             representative: *representative,
         });
     }
-    Some(bins)
+    bins
 }
 
 impl LevelTable {
@@ -87,8 +87,17 @@ impl LevelTable {
     pub fn of(levels: u16, bounds: &[u16], representatives: &[u16]) -> Option<LevelTable>
         ensures { MatchOption result (Lawful (given levels bounds.now representatives.now) → ⊥) (λ t. table_of t ≡ given levels bounds.now representatives.now) }
     {
-        let bins = paired(bounds, representatives)?;
-        LevelTable::of_bins(levels, bins.as_slice())
+        // What K, the lengths or two bounds already refuse is refused before the bins are paired.
+        if !(2..=1024).contains(&levels)
+            || representatives.len() != bounds.len()
+            || bounds.len() > 256
+        {
+            return None;
+        }
+        if !bounds.is_sorted_by(|low, high| low < high) {
+            return None;
+        }
+        LevelTable::of_bins(levels, paired(bounds, representatives).as_slice())
     }
 
     // Two levels in one bin, shown as 0.
