@@ -41,29 +41,30 @@ fn judge(histogram: &Histogram, most: u16, lent: usize) -> Result<(), Refusal>
     Ok(())
 }
 
-// Draws a table that is not refused.
+// Draws a table that is not refused into its place.
 fn draw_up<P: Pricer>(
     pricer: &mut P,
     histogram: &Histogram,
     most: u16,
     mut cells: Cells<'_, P::Kind>,
-) -> (Receipt<P::Kind>, LevelTable)
+    table: &mut LevelTable,
+) -> Receipt<P::Kind>
     requires shape { (1 ≤ most) × (most ≤ 256) × (0 < counted_levels (ledger_of histogram.now)) }
     requires room { (cells_needed (ledger_of histogram.now) most ≤ length cells.tallies.now) × (cells_needed (ledger_of histogram.now) most ≤ length cells.links.now) }
-    ensures drew { Drew P.Kind.Tally.ops (P.Measure.error pricer.old) (ledger_of histogram.now) most result.0 (table_of result.1) }
+    ensures drew { Drew P.Kind.Tally.ops (P.Measure.error pricer.old) (ledger_of histogram.now) most result (table_of table.new) }
     ensures same { SameErrors (P.Measure.error pricer.new) (P.Measure.error pricer.old) }
 {
     let counted = histogram.counted_levels();
     let bins = bins(counted, most);
     let search = Search::of(histogram, bins);
     search.fill(pricer, &mut cells);
-    let receipt = Receipt {
+    *table = search.table(pricer, &cells);
+    Receipt {
         tally: search.tally(&cells),
         bins,
         priced: priced(counted, most),
         compared: compared(counted, most),
-    };
-    (receipt, search.table(pricer, &cells))
+    }
 }
 
 // Puts the table of the best division into at most `most` bins into the place of the table. The work lists' old
@@ -80,7 +81,5 @@ pub fn draw<P: Pricer>(
     ensures runs { (calls : List Asked) → after calls ≡ ledger_of histogram.now → Drawing P.Kind.Tally.ops P.Measure.error (after calls) most result pricer.old pricer.new tallies.old tallies.new links.old links.new table.old table.new }
 {
     judge(histogram, most, tallies.len().min(links.len()))?;
-    let (receipt, drawn) = draw_up(pricer, histogram, most, Cells { tallies, links });
-    *table = drawn;
-    Ok(receipt)
+    Ok(draw_up(pricer, histogram, most, Cells { tallies, links }, table))
 }
