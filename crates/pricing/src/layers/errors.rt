@@ -1,5 +1,5 @@
 // What each layer makes of the error below it.
-ghost use Rattle.std.specs.Prelude.{◌≡◌, min};
+ghost use Rattle.std.specs.Prelude.{◌≡◌, ◌≤◌, min, length};
 ghost use Rattle.pricing.specs.Errors.{SameErrors};
 ghost use Rattle.pricing.specs.Measures.{weighed, allowed, capped};
 ghost use Rattle.pricing.specs.LayerLaws.{weighed_fair, allowed_fair, capped_fair};
@@ -18,6 +18,7 @@ impl<M: Measure> Measure for Weight<M> {
         ensures value { result ≡ weighed self.old.weights (M.error self.old.measure) (min k 1023) (min r 1023) }
         ensures same { SameErrors (weighed self.new.weights (M.error self.new.measure)) (weighed self.old.weights (M.error self.old.measure)) }
         ensures kept { self.new.weights ≡ self.old.weights }
+        ensures range { (1 ≤ length self.new.weights) × (length self.new.weights ≤ 1024) }
     {
         let weight = u32::from(self.weights.weight(k.min(1023)));
         weight.saturating_mul(self.measure.error(k, r))
