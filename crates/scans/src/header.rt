@@ -1,7 +1,7 @@
 // The header of a PGM file: `P5`, the width, the height and the maximum value.
-ghost use Rattle.std.specs.Prelude.{◌≡◌, ◌*◌, ◌<◌, ◌≤◌, true, length, Some, None, MatchResult};
+ghost use Rattle.std.specs.Prelude.{◌≡◌, ◌*◌, ◌<◌, ◌≤◌, Some, None, MatchResult};
 ghost use Rattle.std.specs.Char.{is_ascii_digit};
-ghost use Rattle.std.specs.List.{prefix_len, AllByRecursion};
+ghost use Rattle.std.specs.List.{prefix_len};
 ghost use Rattle.std.specs.Option.{SomeIff};
 ghost use Rattle.scans.specs.Pgm.{white, line_end, gap, value_from, number, after_number, number_fault, magic_fault, width_part, range_fault, header_fault, after_header, width_of, height_of, maximum_of};
 ghost use Rattle.scans.specs.Raster.{sample_size};
@@ -102,13 +102,16 @@ fn digits_len(bytes: &[u8]) -> usize
         .count()
 }
 
-// The number that digits write, unless it is above 65,535.
+// The number that digits write, unless it is above 65,535. They are read one by one: `parse` would go over all of them
+// as a text first. Its caller gives digits alone; any other byte counts as `value_from` says, and one below `0` as nought.
 fn decimal(digits: &[u8]) -> Option<u16>
-    requires some { 0 < length digits.now }
-    requires all { AllByRecursion (λ d. is_ascii_digit d ≡ true) digits.now }
     ensures { SomeIff result (value_from 0 digits.now ≤ 65535) (value_from 0 digits.now) }
 {
-    str::from_utf8(digits).unwrap().parse().ok()
+    digits.iter().try_fold(0u16, |value, digit| {
+        value
+            .checked_mul(10)?
+            .checked_add(u16::from(digit.saturating_sub(b'0')))
+    })
 }
 
 // The number that comes next in the header, and what follows it.
