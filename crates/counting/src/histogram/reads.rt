@@ -58,6 +58,7 @@ impl Histogram {
     pub fn counted_levels(&self) -> u16
         ensures { result ≡ counted_levels (ledger_of self.now) }
     {
+        // A sum has no branch, so the compiler takes many levels at a time; a `filter` with a `count` has one.
         self.pixels()
             .iter()
             .map(|pixels| u16::from(*pixels > 0))
