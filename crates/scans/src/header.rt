@@ -108,9 +108,7 @@ fn decimal(digits: &[u8]) -> Option<u16>
     ensures { SomeIff result (value_from 0 digits.now ≤ 65535) (value_from 0 digits.now) }
 {
     digits.iter().try_fold(0u16, |value, digit| {
-        value
-            .checked_mul(10)?
-            .checked_add(u16::from(digit.saturating_sub(b'0')))
+        u16::try_from(u32::from(value) * 10 + u32::from(digit.saturating_sub(b'0'))).ok()
     })
 }
 
